@@ -403,19 +403,7 @@ fn put_hex(bytes: &[u8], n: usize) {
 }
 
 fn put_byte(b: u8) {
-    let pair = [digit(b / 16), digit(b % 16)];
-    put(&pair);
-}
-
-// The digit of a number below 16.
-fn digit(n: u8) -> u8 {
-    if n < 10 {
-        return 48 + n;
-    }
-    if n < 16 {
-        return 87 + n;
-    }
-    63
+    io::print_hex(STDOUT_FILENO, b as u64, 2);
 }
 
 fn put(text: &[u8]) {

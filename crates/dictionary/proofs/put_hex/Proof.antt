@@ -1,0 +1,27 @@
+-- Every byte, once.
+use borrow.Author.Needs.{needs}
+use native.Mathlib.Omega.{arith}
+use Prim.Native.Nat.{_≤_, _-_}
+use Rattle.dictionary.proofs.put_hex.Statement.{statement}
+use Rattle.dictionary.proofs.put_hex.Tie as tie
+
+abbrev Inv-loop : tie.InvT-loop
+Inv-loop bytes n i₀ i = i ≤ n
+
+abbrev μ-loop : tie.MeasureT-loop
+μ-loop bytes n i₀ i = n - i
+
+pub put-hex-spec : {M : Type 1} → statement M
+put-hex-spec =
+    tie.close
+    (tie.spec
+    Inv-loop
+    μ-loop
+    (λ c. omega arith)
+    (λ c. search needs)
+    (λ c. omega arith)
+    (λ c κs. search needs)
+    (λ c. omega arith)
+    (λ c. omega arith)
+    (λ c. omega arith)
+    (λ c. search needs))

@@ -4,7 +4,6 @@
 // document 01 written apart from this code, and, where the Rust's types hold it (78 of the 114), in parquet-variant 60.1.0
 // itself, with equal bytes; both give the dictionary [1, 0, 0] beside each of these values.
 use encoding::slices::Placed;
-use libc::STDOUT_FILENO;
 use value::decimal::VariantDecimal4;
 use value::decimal::VariantDecimal8;
 use value::decimal::VariantDecimal16;
@@ -287,9 +286,9 @@ fn other_text_refused() {
 }
 
 fn scalar(label: &[u8], v: Variant) {
-    put(label);
+    show::text(label);
     if out_of_range(v) {
-        put(b" refused 7\n");
+        show::text(b" refused 7\n");
         return;
     }
     let mut buf = [0u8; 128];
@@ -361,9 +360,9 @@ fn decimal16(label: &[u8], scale: u8, high: i64, low: u64) {
 }
 
 fn bytes(label: &[u8], kind: VariantBytes, text: &[u8]) {
-    put(label);
+    show::text(label);
     if ill_formed(kind, text) {
-        put(b" refused 8\n");
+        show::text(b" refused 8\n");
         return;
     }
     let mut buf = [0u8; 128];
@@ -372,7 +371,7 @@ fn bytes(label: &[u8], kind: VariantBytes, text: &[u8]) {
 }
 
 fn uuid(label: &[u8], id: [u8; 16]) {
-    put(label);
+    show::text(label);
     let mut buf = [0u8; 128];
     let done = write_uuid(&mut buf, 0, id);
     answer(done, &buf, 17);
@@ -382,30 +381,12 @@ fn uuid(label: &[u8], id: [u8; 16]) {
 fn answer(done: Placed, buf: &[u8], n: usize) {
     match done {
         Placed::Done => {
-            put(b" ");
-            put_hex(buf, n);
-            put(b"\n");
+            show::text(b" ");
+            show::hex(buf, n);
+            show::text(b"\n");
         }
-        Placed::NoRoom => put(b" refused 14\n"),
-    }
-}
-
-// The first n bytes, or as many as there are.
-fn put_hex(bytes: &[u8], n: usize) {
-    let mut i = 0;
-    while i < n {
-        if bytes.len() <= i {
-            return;
+        Placed::NoRoom => {
+            show::text(b" refused 14\n");
         }
-        put_byte(bytes[i]);
-        i += 1;
     }
-}
-
-fn put_byte(b: u8) {
-    io::print_hex(STDOUT_FILENO, b as u64, 2);
-}
-
-fn put(text: &[u8]) {
-    io::write_all(STDOUT_FILENO, text);
 }

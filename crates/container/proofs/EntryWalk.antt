@@ -1,19 +1,17 @@
 -- Entries read and written, and the invariants of the loops over them.
 -- An invariant says: what the entries still to be read give, with what was found so far, is the answer.
-use mathlib.Core.Path.{_≡_, sym, _∙_}
+use mathlib.Core.Path.{_≡_, refl, sym, _∙_}
 use mathlib.Core.Bool.{Bool, true, false, cond, _||_, _&&_, or-assoc, or-false}
 use mathlib.Core.List.{List, [], _∷_}
-use mathlib.Core.Option.{Option, none, some}
 use Prim.Native.Nat.{ℕ, suc, _+_, _-_, _*_, _≤_, _<_, min}
 use native.Mathlib.Omega.{arith}
-use native.Mathlib.Nat.{add-zero}
 use lib.ListN.{set, length, getD, List·getD-eq-default}
 use lib.Seq.{set-out}
-use lib.Dec.{leb, ltb, leb·suc-suc}
-use borrow.Author.Tests.{lt-ltb, le-ltb, eq-eqb, ne-eqb}
+use lib.Dec.{eqb, leb, ltb}
+use borrow.Author.Tests.{lt-ltb, le-ltb}
 use Rattle.container.specs.declared.Entry.{Entry}
 use Rattle.container.specs.declared.Noted.the-variants.{Done, NoRoom}
-use Rattle.container.specs.Entries.{roomFor, entryAt, entriesOf, rangeOf, setEntry, seek, firstOf, misplaced, Notes}
+use Rattle.container.specs.Entries.{roomFor, entryAt, entriesOf, rangeOf, setEntry, seek, misplaced, Notes, Searches}
 
 -- ---- one entry
 
@@ -44,56 +42,50 @@ entries-done l k end h =
     let e : end - k ≡ 0 = omega arith in
     rw e
 
--- ---- a search: the place of the first entry of an id, where the entries begin at place k
-unfoldable pub firstFrom : ℕ → ℕ → List Entry → Option ℕ
-firstFrom id k es = cond (ltb (seek id es) (length es)) (some (k + seek id es)) none
+-- ---- one pass over entries
 
-first-hit : (id k : ℕ) (e : Entry) (es : List Entry) → e .id ≡ id → some k ≡ firstFrom id k (e ∷ es)
-unfolding firstFrom seek
-first-hit id k e es h =
-    let n : ltb 0 (suc (length es)) ≡ true = lt-ltb 0 (suc (length es)) (omega arith) in
-    rw (eq-eqb (e .id) id h, n, add-zero)
+-- the entries still to be read give the answers, with what was found so far; the place is that of the first entry met, else the next one
+pub record Walks (t : Bool) (p : ℕ) (object : Bool) (names size id : ℕ) (l : List ℕ) (end : ℕ) (bad met : Bool) (place k : ℕ) : Type 0 where
+  pub any : (bad || misplaced object names size (entriesOf l k (end - k))) ≡ t
+  pub first : cond met place (place + seek id (entriesOf l k (end - k))) ≡ p
+  pub low : place ≤ k
 
-first-miss : (id k : ℕ) (e : Entry) (es : List Entry) → (e .id ≡ id → ⊥) → firstFrom id k (e ∷ es) ≡ firstFrom id (k + 1) es
-unfolding firstFrom seek
-first-miss id k e es h =
-    let p : 1 + seek id es ≡ suc (seek id es) = omega arith in
-    let q : k + suc (seek id es) ≡ k + 1 + seek id es = omega arith in
-    rw (ne-eqb (e .id) id h, p, q, leb·suc-suc (suc (seek id es)) (length es))
+pub walks-start : (l : List ℕ) (object : Bool) (names size id from to end : ℕ) → end ≡ min to (roomFor (length l))
+    → Walks (misplaced object names size (rangeOf l from to)) (from + seek id (rangeOf l from to)) object names size id l end false false from from
+walks-start l object names size id from to end e = record { any = rw e; first = rw e; low = omega arith }
 
-pub record Seeks (t : Option ℕ) (id : ℕ) (l : List ℕ) (end k : ℕ) : Type 0 where
-  pub same : firstFrom id k (entriesOf l k (end - k)) ≡ t
+first-again : (met hit : Bool) (place rest : ℕ) → let r = cond (met || hit) place (place + 1) in cond (met || hit) r (r + rest) ≡ cond met place (place + cond hit 0 (1 + rest))
+first-again true hit place rest = refl
+first-again false true place rest = omega arith
+first-again false false place rest = omega arith
 
-pub seeks-start : (l : List ℕ) (id from to end : ℕ) → end ≡ min to (roomFor (length l)) → Seeks (firstOf id l from to) id l end from
-unfolding firstFrom firstOf
-seeks-start l id from to end e = record { same = rw e }
+low-again : (met : Bool) (place k : ℕ) → place ≤ k → cond met place (place + 1) ≤ k + 1
+low-again true place k h = omega arith
+low-again false place k h = omega arith
 
-pub seeks-found : {t : Option ℕ} {id : ℕ} {l : List ℕ} {end k : ℕ} → Seeks t id l end k → k < end → getD l (2 * k) 0 ≡ id → some k ≡ t
-seeks-found {id = id} {l = l} {end = end} {k = k} s h e =
-    first-hit id k (entryAt l k) (entriesOf l (k + 1) (end - (k + 1))) e ∙ (rw (entries-next l k end h) at (s .same))
+pub walks-again : {t : Bool} {p : ℕ} {object : Bool} {names size id : ℕ} {l : List ℕ} {end : ℕ} {bad met : Bool} {place k : ℕ} (r : ℕ)
+    → Walks t p object names size id l end bad met place k → k < end → let hit = met || eqb (getD l (2 * k) 0) id in r ≡ cond hit place (place + 1)
+    → Walks t p object names size id l end (bad || (ltb size (getD l (2 * k + 1) 0) || (object && leb names (getD l (2 * k) 0)))) hit r (k + 1)
+unfolding misplaced seek
+walks-again {object = object} {names = names} {size = size} {id = id} {l = l} {end = end} {bad = bad} {met = met} {place = place} {k = k} r s h e =
+    let rest = entriesOf l (k + 1) (end - (k + 1)) in
+    let hit = eqb (getD l (2 * k) 0) id in
+    record {
+      any = or-assoc bad (ltb size (getD l (2 * k + 1) 0) || (object && leb names (getD l (2 * k) 0))) (misplaced object names size rest) ∙ (rw (entries-next l k end h) at (s .any));
+      first = rw e (first-again met hit place (seek id rest) ∙ (rw (entries-next l k end h) at (s .first)));
+      low = rw e (low-again (met || hit) place k (s .low));
+    }
 
-pub seeks-again : {t : Option ℕ} {id : ℕ} {l : List ℕ} {end k : ℕ} → Seeks t id l end k → k < end → (getD l (2 * k) 0 ≡ id → ⊥) → Seeks t id l end (k + 1)
-seeks-again {id = id} {l = l} {end = end} {k = k} s h e =
-    record { same = sym (first-miss id k (entryAt l k) (entriesOf l (k + 1) (end - (k + 1))) e) ∙ (rw (entries-next l k end h) at (s .same)) }
+first-end : (met : Bool) (place : ℕ) → place ≡ cond met place (place + 0)
+first-end true place = refl
+first-end false place = omega arith
 
-pub seeks-end : {t : Option ℕ} {id : ℕ} {l : List ℕ} {end k : ℕ} → Seeks t id l end k → end ≤ k → none ≡ t
-unfolding firstFrom seek
-seeks-end {id = id} {l = l} {end = end} {k = k} s h = rw (entries-done l k end h) at (s .same)
-
--- ---- is an entry misplaced?
-pub record Checks (t object : Bool) (names size : ℕ) (l : List ℕ) (end : ℕ) (bad : Bool) (k : ℕ) : Type 0 where
-  pub same : (bad || misplaced object names size (entriesOf l k (end - k))) ≡ t
-
-pub checks-start : (l : List ℕ) (object : Bool) (names size from to end : ℕ) → end ≡ min to (roomFor (length l))
-    → Checks (misplaced object names size (rangeOf l from to)) object names size l end false from
-checks-start l object names size from to end e = record { same = rw e }
-
-pub checks-again : {t object : Bool} {names size : ℕ} {l : List ℕ} {end : ℕ} {bad : Bool} {k : ℕ} → Checks t object names size l end bad k → k < end
-    → Checks t object names size l end (bad || (ltb size (getD l (2 * k + 1) 0) || (object && leb names (getD l (2 * k) 0)))) (k + 1)
-unfolding misplaced
-checks-again {object = object} {names = names} {size = size} {l = l} {end = end} {bad = bad} {k = k} s h =
-    record { same = or-assoc bad (ltb size (getD l (2 * k + 1) 0) || (object && leb names (getD l (2 * k) 0))) (misplaced object names size (entriesOf l (k + 1) (end - (k + 1)))) ∙ (rw (entries-next l k end h) at (s .same)) }
-
-pub checks-end : {t object : Bool} {names size : ℕ} {l : List ℕ} {end : ℕ} {bad : Bool} {k : ℕ} → Checks t object names size l end bad k → end ≤ k → bad ≡ t
-unfolding misplaced
-checks-end {l = l} {end = end} {bad = bad} {k = k} s h = sym (or-false bad) ∙ (rw (entries-done l k end h) at (s .same))
+pub walks-end : {l : List ℕ} {object : Bool} {names size id from to end : ℕ} {bad met : Bool} {place k : ℕ}
+    → Walks (misplaced object names size (rangeOf l from to)) (from + seek id (rangeOf l from to)) object names size id l end bad met place k → end ≤ k
+    → Searches l from to object names size id (record { misplaced = bad; place = place })
+unfolding misplaced seek
+walks-end {l = l} {end = end} {bad = bad} {met = met} {place = place} {k = k} s h =
+    record {
+      misplacedAny = sym (or-false bad) ∙ (rw (entries-done l k end h) at (s .any));
+      placeFirst = first-end met place ∙ (rw (entries-done l k end h) at (s .first));
+    }

@@ -1,16 +1,14 @@
 -- The entries of open containers in lent numbers: two numbers each, the id, then the offset.
 use mathlib.Core.Bool.{Bool, false, cond, _||_, _&&_}
 use mathlib.Core.List.{List, [], _∷_, map}
-use mathlib.Core.Option.{Option, none, some}
 use mathlib.Core.Path.{_≡_}
 use Prim.Native.Nat.{ℕ, zero, suc, _+_, _-_, _*_, _/_, min}
 use lib.Dec.{eqb, leb, ltb}
 use lib.ListN.{getD, length, set}
 use Rattle.container.specs.declared.Entry.{Entry}
-use Rattle.container.specs.declared.Found.{Found}
-use Rattle.container.specs.declared.Found.the-variants.{At, Missing}
 use Rattle.container.specs.declared.Noted.{Noted}
 use Rattle.container.specs.declared.Noted.the-variants.{Done, NoRoom}
+use Rattle.container.specs.declared.Search.{Search}
 
 -- document 01, "entry storage .. for half as many, rounded down": how many entries n lent numbers have room for
 abbrev pub roomFor : ℕ → ℕ
@@ -48,17 +46,6 @@ unfoldable pub seek : ℕ → List Entry → ℕ
 seek id [] = 0
 seek id (e ∷ es) = cond (eqb (e .id) id) 0 (1 + seek id es)
 
--- what a search answers: the place found
-abbrev pub placeOf : Found → Option ℕ
-placeOf (At k) = some k
-placeOf Missing = none
-
--- the place of the first entry of an id, from `from` up to `to`
-unfoldable pub firstOf : ℕ → List ℕ → ℕ → ℕ → Option ℕ
-firstOf id l from to =
-    let es = rangeOf l from to in
-    cond (ltb (seek id es) (length es)) (some (from + seek id es)) none
-
 -- an answer's number: 13, "no entry is free"
 abbrev pub notedNumber : Noted → ℕ
 notedNumber Done = 0
@@ -74,6 +61,11 @@ pub record Notes (l : List ℕ) (k : ℕ) (e : Entry) (r : Noted) (after : List 
 unfoldable pub misplaced : Bool → ℕ → ℕ → List Entry → Bool
 misplaced object names size [] = false
 misplaced object names size (e ∷ es) = (ltb size (e .offset) || (object && leb names (e .id))) || misplaced object names size es
+
+-- one pass over the entries from `from` up to `to`: is one misplaced, and where is the first of an id, or the place behind them
+pub record Searches (l : List ℕ) (from to : ℕ) (object : Bool) (names size id : ℕ) (r : Search) : Type 0 where
+  pub misplacedAny : r .misplaced ≡ misplaced object names size (rangeOf l from to)
+  pub placeFirst : r .place ≡ from + seek id (rangeOf l from to)
 
 -- For the code: every second of the numbers, from number p on.
 unfoldable pub strided : List ℕ → ℕ → ℕ → List ℕ

@@ -1,11 +1,12 @@
 // Entries in lent numbers: two numbers each, the id, then the offset. Past the lent numbers all are 0.
 use crate::Entry;
-use crate::Found;
 use crate::Noted;
+use crate::Search;
+ghost use mathlib.Core.Bool.{cond};
 ghost use mathlib.Core.Path.{_≡_};
-ghost use Prim.Native.Nat.{_+_, _*_, min};
+ghost use Prim.Native.Nat.{_+_, _*_, _^_, _<_, min};
 ghost use lib.ListN.{getD, set};
-ghost use Rattle.container.specs.Entries.{Notes, entryAt, firstOf, misplaced, placeOf, rangeOf};
+ghost use Rattle.container.specs.Entries.{Notes, Searches, entryAt};
 
 pub fn entry_at(entries: &[usize], k: usize) -> Entry
     ensures { λ r. ⌜ r ≡ entryAt (now (entries .entry)) k ⌝ }
@@ -47,42 +48,47 @@ pub fn replace_offset(entries: &mut [usize], k: usize, offset: usize) -> usize
     former
 }
 
-// The first entry of an id, from `from` up to `to`.
-pub fn find_entry(entries: &[usize], from: usize, to: usize, id: usize) -> Found
-    ensures { λ r. ⌜ placeOf r ≡ firstOf id (now (entries .entry)) from to ⌝ }
-{
-    let end = least(to, entries.len() / 2);
-    let mut place = from;
-    while place < end {
-        if entries[2 * place] == id {
-            return Found::At(place);
-        }
-        place += 1;
-    }
-    Found::Missing
-}
-
-// Does an entry from `from` up to `to` have an offset beyond `size` bytes of data or, in an object, an id not below `names`?
-pub fn entries_misplaced(
+// The entries from `from` up to `to`: has one an offset beyond `size` bytes of data or, in an object, an id not below `names`;
+// and where the first of this id stands.
+pub fn search_entries(
     entries: &[usize],
     from: usize,
     to: usize,
     object: bool,
     names: usize,
     size: usize,
-) -> bool
-    ensures { λ r. ⌜ r ≡ misplaced object names size (rangeOf (now (entries .entry)) from to) ⌝ }
+    id: usize,
+) -> Search
+    ensures { λ r. ⌜ Searches (now (entries .entry)) from to object names size id r ⌝ }
 {
     let end = least(to, entries.len() / 2);
     let mut bad = false;
+    let mut met = false;
+    let mut place = from;
     let mut k = from;
     while k < end {
-        let id = entries[2 * k];
+        let e_id = entries[2 * k];
         let offset = entries[2 * k + 1];
-        bad = bad | ((size < offset) | (object & (names <= id)));
+        bad = bad | ((size < offset) | (object & (names <= e_id)));
+        met = met | (e_id == id);
+        place = passed(met, place);
         k += 1;
     }
-    bad
+    Search {
+        misplaced: bad,
+        place: place,
+    }
+}
+
+// The next place, until the one sought is met.
+fn passed(met: bool, place: usize) -> usize
+    requires { ⌜ place < 2 ^ 60 ⌝ }
+    ensures { λ r. ⌜ r ≡ cond met place (place + 1) ⌝ }
+{
+    if met {
+        return place;
+    }
+    place + 1
 }
 
 fn number_at(numbers: &[usize], p: usize) -> usize

@@ -23,11 +23,10 @@ mod header;
 mod list;
 mod object;
 
-pub use entries::entries_misplaced;
 pub use entries::entry_at;
-pub use entries::find_entry;
 pub use entries::put_entry;
 pub use entries::replace_offset;
+pub use entries::search_entries;
 pub use list::close_list;
 pub use object::close_object;
 
@@ -42,9 +41,10 @@ pub enum Noted {
     NoRoom,
 }
 
-pub enum Found {
-    At(usize),
-    Missing,
+// What one pass over entries finds: is one misplaced, and the place of the first of an id, or the place behind them.
+pub struct Search {
+    pub misplaced: bool,
+    pub place: usize,
 }
 
 // A container's data, from `start` to `used`, and its entries, from `from` up to `to`.

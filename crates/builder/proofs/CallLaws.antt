@@ -1,0 +1,123 @@
+-- A call over the record by value, from the call over its pieces.
+use mathlib.Core.Path.{_≡_, refl, sym, _∙_, ap}
+use mathlib.Core.Bool.{Bool, true, false, cond, _&&_, _||_, and-eq-true-iff, true≢false}
+use mathlib.Core.List.{List}
+use mathlib.Core.Option.{Option}
+use Prim.Native.Nat.{ℕ, _-_, _≤_, _<_}
+use native.Mathlib.Omega.{arith}
+use lib.Dec.{eqb, leb, ltb}
+use lib.ListN.{set}
+use borrow.Author.Tests.{eqb-true, eq-eqb, ne-eqb, leb-true, leb-false, ltb-true, not-false}
+use Rattle.metadata.specs.Names.{Name}
+use Rattle.run.specs.declared.Builder.{Builder}
+use Rattle.run.specs.declared.Container.{Container}
+use Rattle.run.specs.declared.Counts.{Counts}
+use Rattle.run.specs.declared.View.{View}
+use Rattle.run.specs.Record.{Storage, Call, openIn, uniqueness, viewOf, innermost, inObject, rising, chained}
+use Rattle.run.specs.Damage.{overUsed, grown, unchained}
+use Rattle.run.proofs.Demand1.{number-none}
+use Rattle.run.specs.Table.{numberOf}
+use Rattle.run.specs.Step.{step, after, carriedOut, containersAfter, newContainer, marked}
+use Rattle.builder.specs.declared.Answer.{Answer}
+use Rattle.builder.specs.declared.Answer.the-variants.{Done, Refused}
+use Rattle.builder.specs.declared.Called.{Called}
+use Rattle.pieces.specs.declared.Moved.{Moved}
+use Rattle.pieces.specs.declared.Opened.{Opened}
+use Rattle.builder.specs.Calls.{answerNumber, answerOf, state, calledBy, Does}
+use Rattle.pieces.specs.Pieces.{Leaves, Opens}
+
+-- an answer has the number that it is made of
+pub answer-number : (n : ℕ) → answerNumber (answerOf n) ≡ n
+answer-number n = go (eqb n 0) refl
+  where
+    go : (t : Bool) → eqb n 0 ≡ t → answerNumber (cond t Done (Refused n)) ≡ n
+    go true e = sym (eqb-true n 0 e)
+    go false e = refl
+
+-- ---- a step by its number
+
+module _ (b : Builder) (l : Storage) (c : Call) where
+  step-done : eqb (numberOf (viewOf b) l c) 0 ≡ true → calledBy (step (state b l) c) ≡ record { answer = Done; builder = after (state b l) c .builder }
+  unfolding step
+  step-done z = rw z
+
+  step-done-storage : eqb (numberOf (viewOf b) l c) 0 ≡ true → step (state b l) c .state .storage ≡ carriedOut (viewOf b) l c .storage
+  unfolding step after
+  step-done-storage z = rw z
+
+  step-refused : eqb (numberOf (viewOf b) l c) 0 ≡ false → calledBy (step (state b l) c) ≡ record { answer = Refused (numberOf (viewOf b) l c); builder = b }
+  unfolding step
+  step-refused z = rw z (rw z)
+
+  step-refused-storage : eqb (numberOf (viewOf b) l c) 0 ≡ false → step (state b l) c .state .storage ≡ l
+  unfolding step
+  step-refused-storage z = rw z
+
+-- the record with other counts
+abbrev withMoved : Builder → Moved → Called
+withMoved b r = record { answer = answerOf (r .number); builder = record { containers = b .containers; counts = r .counts } }
+
+-- a call that changes no container
+pub does-moved : (b : Builder) (l : Storage) (c : Call) {v : View} {r : Moved} {e : Storage} {x : Called} → containersAfter (viewOf b) l c (b .containers) ≡ b .containers
+    → v ≡ viewOf b → Leaves v l c r e → x ≡ withMoved b r → Does x e (step (state b l) c)
+unfolding after
+does-moved b l c {v} {r} {e} {x} k p q d = go (eqb (numberOf (viewOf b) l c) 0) refl (rw p at q)
+  where
+    go : (t : Bool) → eqb (numberOf (viewOf b) l c) 0 ≡ t → Leaves (viewOf b) l c r e → Does x e (step (state b l) c)
+    go true z q = rw (step-done b l c z, step-done-storage b l c z, d, q .number, q .counts, q .storage, z, k) (refl, refl)
+    go false z q = rw (step-refused b l c z, step-refused-storage b l c z, d, q .number, q .counts, q .storage, z) (refl, refl)
+
+-- an open, refused or carried out
+module _ (b : Builder) (l : Storage) (nm : Option Name) (object : Bool) {v : View} {r : Opened} {e : Storage} (p : v ≡ viewOf b) (q : Opens v l nm object r e) where
+  pub does-refused : {a : Answer} → (r .number ≡ 0 → ⊥) → a ≡ answerOf (r .number) → Does (record { answer = a; builder = b }) e (step (state b l) (openIn nm object))
+  does-refused h d =
+      let w = rw p at q in
+      let z = ne-eqb (numberOf (viewOf b) l (openIn nm object)) 0 (λ f. h (w .number ∙ f)) in
+      rw (step-refused b l (openIn nm object) z, step-refused-storage b l (openIn nm object) z, d, w .number, w .storage, z) (refl, refl)
+
+  pub does-opened : {a : Answer} → r .number ≡ 0 → a ≡ answerOf 0
+      → Does (record { answer = a; builder = record { containers = set (b .containers) (b .counts .depth) (r .container); counts = r .counts } }) e (step (state b l) (openIn nm object))
+  unfolding after
+  does-opened h d =
+      let w = rw p at q in
+      let z = eq-eqb (numberOf (viewOf b) l (openIn nm object)) 0 (sym (w .number) ∙ h) in
+      rw (step-done b l (openIn nm object) z, step-done-storage b l (openIn nm object) z, d, w .container, w .counts, w .storage, z) (refl, refl)
+
+  -- there is room for the container
+  pub opened-deep : r .number ≡ 0 → b .counts .depth < 64
+  opened-deep h =
+      let w = rw p at q in
+      leb-false 64 (b .counts .depth) (number-none (viewOf b) l (openIn nm object) .0 (sym (w .number) ∙ h) .1 .1 .1 .1 .1 .1 .0)
+
+-- the uniqueness mark
+module _ (b : Builder) (l : Storage) (u : Bool) {v : View} {n : ℕ} (p : v ≡ viewOf b) (q : (u : Bool) → n ≡ numberOf v l (uniqueness u)) where
+  pub unique-refused : {a : Answer} → (n ≡ 0 → ⊥) → a ≡ answerOf n → Does (record { answer = a; builder = b }) l (step (state b l) (uniqueness u))
+  unique-refused h d =
+      let w : n ≡ numberOf (viewOf b) l (uniqueness u) = rw p at (q u) in
+      let z = ne-eqb (numberOf (viewOf b) l (uniqueness u)) 0 (λ f. h (w ∙ f)) in
+      rw (step-refused b l (uniqueness u) z, step-refused-storage b l (uniqueness u) z, d, w, z) (refl, refl)
+
+  pub unique-marked : {a : Answer} {k : Container} → n ≡ 0 → a ≡ answerOf 0 → k ≡ marked (v .inner) u
+      → Does (record { answer = a; builder = record { containers = set (b .containers) (b .counts .depth - 1) k; counts = b .counts } }) l (step (state b l) (uniqueness u))
+  unfolding after
+  unique-marked h d k =
+      let w : n ≡ numberOf (viewOf b) l (uniqueness u) = rw p at (q u) in
+      let z = eq-eqb (numberOf (viewOf b) l (uniqueness u)) 0 (sym w ∙ h) in
+      rw (step-done b l (uniqueness u) z, step-done-storage b l (uniqueness u) z, d, k, p) (refl, refl)
+
+  -- the innermost is one of the 64
+  pub unique-open : n ≡ 0 → (0 < b .counts .depth) × (b .counts .depth ≤ 64)
+  unfolding unchained chained
+  unique-open h =
+      let w : n ≡ numberOf (viewOf b) l (uniqueness u) = rw p at (q u) in
+      let k = number-none (viewOf b) l (uniqueness u) .0 (sym w ∙ h) in
+      let d = b .counts .depth in
+      let i = and-eq-true-iff (ltb 0 d) (innermost (b .containers) d .object) .0 (not-false (inObject (viewOf b)) (k .1 .1 .0)) in
+      let g = or-parts (overUsed (viewOf b) l) (unchained (viewOf b) || false) (k .0) in
+      let f = or-parts (unchained (viewOf b)) false (g .1) in
+      let c = and-eq-true-iff (chained (b .containers) d) (grown (viewOf b)) .0 (not-false (chained (b .containers) d && grown (viewOf b)) (f .0)) in
+      (ltb-true 0 d (i .0), leb-true d 64 (and-eq-true-iff (leb d 64) (rising (b .containers) (d - 1)) .0 (c .0) .0))
+    where
+      or-parts : (x y : Bool) → (x || y) ≡ false → (x ≡ false) × (y ≡ false)
+      or-parts true y e = absurd (true≢false e)
+      or-parts false y e = (refl, e)

@@ -1,0 +1,31 @@
+use borrow.Author.Needs.{needs}
+use mathlib.Core.Path.{refl}
+use Rattle.table.specs.Decide.{stored}
+use Rattle.builder.proofs.CallLaws.{does-moved}
+use Rattle.run.specs.Record.{rollBack}
+use Rattle.builder.proofs.calls.rollback.Statement.{statement}
+use Rattle.builder.proofs.calls.rollback.Tie as tie
+
+view-of-requires : tie.Need-view-of-requires
+view-of-requires c κs = search needs
+
+rollback-over-requires : tie.Need-rollback-over-requires
+rollback-over-requires c κs = search needs
+
+called-requires : tie.Need-called-requires
+called-requires c κs = search needs
+
+same-length : tie.Need-same-length
+same-length c = search needs
+
+returns : tie.Need-returns
+returns c =
+    let r = c .before .before .before in
+    let v = r .before .before in
+    let a = v .before .before .before .before .before .args in
+    does-moved (a .b) (stored (a .value .now) (a .text .now) (a .ends .now) (a .entries .now)) rollBack refl (v .view-of .ensures) (r .rollback-over .ensures) (c .called .ensures)
+
+pub rollback-spec : {M : Type 1} → statement M
+rollback-spec =
+    tie.close
+    (tie.spec view-of-requires rollback-over-requires called-requires same-length returns)

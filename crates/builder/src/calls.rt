@@ -1,0 +1,229 @@
+// The calls over the whole record, by value: each picks what it sees of the record, calls its piece, and puts the result back.
+use crate::Called;
+use crate::view::answer_of;
+use crate::view::called;
+use crate::view::view_of;
+use pieces::append_bytes_over;
+use pieces::append_uuid_over;
+use pieces::append_value_over;
+use pieces::close_over;
+use pieces::open_over;
+use pieces::register;
+use pieces::rollback_over;
+use run::Builder;
+use run::Container;
+use table::unique_number;
+use value::variant::Variant;
+use value::variant::VariantBytes;
+ghost use mathlib.Core.Path.{_≡_};
+ghost use mathlib.Core.Bool.{false, true};
+ghost use Rattle.run.specs.Record.{append as appendOf, bytes as bytesOf, close as closeOf, fixed, openIn, register as registerOf, rollBack, uniqueness, uuid as uuidOf};
+ghost use Rattle.run.specs.Step.{step};
+ghost use Rattle.table.specs.Decide.{nameOf, stored};
+ghost use Rattle.builder.specs.Calls.{Does, state};
+
+// A name given beforehand, at the top level.
+pub fn add_field_name(
+    b: Builder,
+    value: &[u8],
+    text: &mut [u8],
+    ends: &mut [usize],
+    entries: &[usize],
+    name: &[u8],
+) -> Called
+    ensures { λ r. ⌜ Does r (stored (now (value .entry)) (now (text .exit)) (now (ends .exit)) (now (entries .entry))) (step (state b (stored (now (value .entry)) (now (text .entry)) (now (ends .entry)) (now (entries .entry)))) (registerOf (now (name .entry)))) ⌝ }
+{
+    let v = view_of(b);
+    let r = register(v, value, text, ends, entries, name);
+    called(b, r)
+}
+
+// A scalar of fixed size.
+pub fn append_value(
+    b: Builder,
+    value: &mut [u8],
+    text: &mut [u8],
+    ends: &mut [usize],
+    entries: &mut [usize],
+    named: bool,
+    name: &[u8],
+    x: Variant,
+) -> Called
+    ensures { λ r. ⌜ Does r (stored (now (value .exit)) (now (text .exit)) (now (ends .exit)) (now (entries .exit))) (step (state b (stored (now (value .entry)) (now (text .entry)) (now (ends .entry)) (now (entries .entry)))) (appendOf (nameOf named (now (name .entry))) (fixed x))) ⌝ }
+{
+    let v = view_of(b);
+    let r = append_value_over(v, value, text, ends, entries, named, name, x);
+    called(b, r)
+}
+
+// Binary, String, short text or plain text.
+pub fn append_bytes(
+    b: Builder,
+    value: &mut [u8],
+    text: &mut [u8],
+    ends: &mut [usize],
+    entries: &mut [usize],
+    named: bool,
+    name: &[u8],
+    kind: VariantBytes,
+    bytes: &[u8],
+) -> Called
+    ensures { λ r. ⌜ Does r (stored (now (value .exit)) (now (text .exit)) (now (ends .exit)) (now (entries .exit))) (step (state b (stored (now (value .entry)) (now (text .entry)) (now (ends .entry)) (now (entries .entry)))) (appendOf (nameOf named (now (name .entry))) (bytesOf kind (now (bytes .entry))))) ⌝ }
+{
+    let v = view_of(b);
+    let r = append_bytes_over(v, value, text, ends, entries, named, name, kind, bytes);
+    called(b, r)
+}
+
+pub fn append_uuid(
+    b: Builder,
+    value: &mut [u8],
+    text: &mut [u8],
+    ends: &mut [usize],
+    entries: &mut [usize],
+    named: bool,
+    name: &[u8],
+    uuid: [u8; 16],
+) -> Called
+    ensures { λ r. ⌜ Does r (stored (now (value .exit)) (now (text .exit)) (now (ends .exit)) (now (entries .exit))) (step (state b (stored (now (value .entry)) (now (text .entry)) (now (ends .entry)) (now (entries .entry)))) (appendOf (nameOf named (now (name .entry))) (uuidOf uuid))) ⌝ }
+{
+    let v = view_of(b);
+    let r = append_uuid_over(v, value, text, ends, entries, named, name, uuid);
+    called(b, r)
+}
+
+pub fn new_list(
+    b: Builder,
+    value: &[u8],
+    text: &mut [u8],
+    ends: &mut [usize],
+    entries: &mut [usize],
+    named: bool,
+    name: &[u8],
+) -> Called
+    ensures { λ r. ⌜ Does r (stored (now (value .entry)) (now (text .exit)) (now (ends .exit)) (now (entries .exit))) (step (state b (stored (now (value .entry)) (now (text .entry)) (now (ends .entry)) (now (entries .entry)))) (openIn (nameOf named (now (name .entry))) false)) ⌝ }
+{
+    new_container(b, value, text, ends, entries, named, name, false)
+}
+
+pub fn new_object(
+    b: Builder,
+    value: &[u8],
+    text: &mut [u8],
+    ends: &mut [usize],
+    entries: &mut [usize],
+    named: bool,
+    name: &[u8],
+) -> Called
+    ensures { λ r. ⌜ Does r (stored (now (value .entry)) (now (text .exit)) (now (ends .exit)) (now (entries .exit))) (step (state b (stored (now (value .entry)) (now (text .entry)) (now (ends .entry)) (now (entries .entry)))) (openIn (nameOf named (now (name .entry))) true)) ⌝ }
+{
+    new_container(b, value, text, ends, entries, named, name, true)
+}
+
+fn new_container(
+    b: Builder,
+    value: &[u8],
+    text: &mut [u8],
+    ends: &mut [usize],
+    entries: &mut [usize],
+    named: bool,
+    name: &[u8],
+    object: bool,
+) -> Called
+    ensures { λ r. ⌜ Does r (stored (now (value .entry)) (now (text .exit)) (now (ends .exit)) (now (entries .exit))) (step (state b (stored (now (value .entry)) (now (text .entry)) (now (ends .entry)) (now (entries .entry)))) (openIn (nameOf named (now (name .entry))) object)) ⌝ }
+{
+    let v = view_of(b);
+    let r = open_over(v, value, text, ends, entries, named, name, object);
+    let n = r.number;
+    if n != 0 {
+        return Called {
+            answer: answer_of(n),
+            builder: b,
+        };
+    }
+    let at = b.counts.depth;
+    let k = r.container;
+    let c = r.counts;
+    let mut cs = b.containers;
+    cs[at] = k;
+    let next = Builder {
+        containers: cs,
+        counts: c,
+    };
+    Called {
+        answer: answer_of(0),
+        builder: next,
+    }
+}
+
+pub fn close(
+    b: Builder,
+    value: &mut [u8],
+    text: &[u8],
+    ends: &[usize],
+    entries: &mut [usize],
+) -> Called
+    ensures { λ r. ⌜ Does r (stored (now (value .exit)) (now (text .entry)) (now (ends .entry)) (now (entries .exit))) (step (state b (stored (now (value .entry)) (now (text .entry)) (now (ends .entry)) (now (entries .entry)))) closeOf) ⌝ }
+{
+    let v = view_of(b);
+    let r = close_over(v, value, text, ends, entries);
+    called(b, r)
+}
+
+pub fn rollback(
+    b: Builder,
+    value: &[u8],
+    text: &[u8],
+    ends: &[usize],
+    entries: &mut [usize],
+) -> Called
+    ensures { λ r. ⌜ Does r (stored (now (value .entry)) (now (text .entry)) (now (ends .entry)) (now (entries .exit))) (step (state b (stored (now (value .entry)) (now (text .entry)) (now (ends .entry)) (now (entries .entry)))) rollBack) ⌝ }
+{
+    let v = view_of(b);
+    let r = rollback_over(v, value, text, ends, entries);
+    called(b, r)
+}
+
+// The uniqueness mark of the innermost object, for later calls.
+pub fn with_validate_unique_fields(
+    b: Builder,
+    value: &[u8],
+    text: &[u8],
+    ends: &[usize],
+    entries: &[usize],
+    unique: bool,
+) -> Called
+    ensures { λ r. ⌜ Does r (stored (now (value .entry)) (now (text .entry)) (now (ends .entry)) (now (entries .entry))) (step (state b (stored (now (value .entry)) (now (text .entry)) (now (ends .entry)) (now (entries .entry)))) (uniqueness unique)) ⌝ }
+{
+    let v = view_of(b);
+    let n = unique_number(v, value, text, ends, entries);
+    if n != 0 {
+        return Called {
+            answer: answer_of(n),
+            builder: b,
+        };
+    }
+    let k = v.inner;
+    let p = k.parent;
+    let at = b.counts.depth - 1;
+    let marked = Container {
+        value: k.value,
+        names: k.names,
+        text: k.text,
+        entries: k.entries,
+        parent: p,
+        object: k.object,
+        unique: unique,
+    };
+    let c = b.counts;
+    let mut cs = b.containers;
+    cs[at] = marked;
+    let next = Builder {
+        containers: cs,
+        counts: c,
+    };
+    Called {
+        answer: answer_of(0),
+        builder: next,
+    }
+}

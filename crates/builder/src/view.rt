@@ -1,0 +1,143 @@
+// The record, and what a call sees of it.
+use crate::Answer;
+use crate::Called;
+use pieces::Moved;
+use run::Builder;
+use run::Container;
+use run::Counts;
+use run::ParentEntry;
+use run::View;
+ghost use mathlib.Core.Path.{_≡_};
+ghost use Rattle.run.specs.Record.{chained, innermost, noContainer, parentOf, viewOf};
+ghost use Rattle.run.specs.Record.{under as underOf};
+ghost use Rattle.builder.specs.Calls.{answerOf, freshOf};
+
+// A fresh builder; children inherit the uniqueness mark.
+pub fn new(unique: bool) -> Builder
+    ensures { λ r. ⌜ r ≡ freshOf unique ⌝ }
+{
+    let e = no_container();
+    let cs = [e; 64];
+    let m = metadata::new();
+    let c = Counts {
+        value: 0,
+        entries: 0,
+        depth: 0,
+        dictionary: m,
+        unique: unique,
+        finished: false,
+    };
+    Builder {
+        containers: cs,
+        counts: c,
+    }
+}
+
+fn no_container() -> Container
+    ensures { λ r. ⌜ r ≡ noContainer ⌝ }
+{
+    Container {
+        value: 0,
+        names: 0,
+        text: 0,
+        entries: 0,
+        parent: ParentEntry::New,
+        object: false,
+        unique: false,
+    }
+}
+
+pub(crate) fn view_of(b: Builder) -> View
+    ensures { λ r. ⌜ r ≡ viewOf b ⌝ }
+{
+    let c = b.counts;
+    let k = inner_of(b);
+    let p = parent_of(b);
+    let h = chain_of(b);
+    View {
+        counts: c,
+        inner: k,
+        parent: p,
+        chain: h,
+    }
+}
+
+fn inner_of(b: Builder) -> Container
+    ensures { λ r. ⌜ r ≡ innermost (b .containers) (b .counts .depth) ⌝ }
+{
+    let d = b.counts.depth;
+    if d == 0 {
+        return no_container();
+    }
+    if 64 < d {
+        return no_container();
+    }
+    b.containers[d - 1]
+}
+
+fn parent_of(b: Builder) -> Container
+    ensures { λ r. ⌜ r ≡ parentOf (b .containers) (b .counts .depth) ⌝ }
+{
+    let d = b.counts.depth;
+    if d < 2 {
+        return no_container();
+    }
+    if 65 < d {
+        return no_container();
+    }
+    b.containers[d - 2]
+}
+
+// Are at most 64 open, and does no starting mark fall from one to the next?
+fn chain_of(b: Builder) -> bool
+    ensures { λ r. ⌜ r ≡ chained (b .containers) (b .counts .depth) ⌝ }
+{
+    let d = b.counts.depth;
+    if 64 < d {
+        return false;
+    }
+    if d == 0 {
+        return true;
+    }
+    let cs = b.containers;
+    let mut ok = true;
+    let mut i = d - 1;
+    while 0 < i {
+        let l = cs[i];
+        i -= 1;
+        let k = cs[i];
+        ok = ok & under(k, l);
+    }
+    ok
+}
+
+fn under(k: Container, l: Container) -> bool
+    ensures { λ r. ⌜ r ≡ underOf k l ⌝ }
+{
+    (k.value <= l.value) & ((k.names <= l.names) & ((k.text <= l.text) & (k.entries <= l.entries)))
+}
+
+pub(crate) fn answer_of(n: u8) -> Answer
+    ensures { λ r. ⌜ r ≡ answerOf n ⌝ }
+{
+    if n == 0 {
+        return Answer::Done;
+    }
+    Answer::Refused(n)
+}
+
+// The record with other counts.
+pub(crate) fn called(b: Builder, r: Moved) -> Called
+    ensures { λ x. ⌜ x ≡ record { answer = answerOf (r .number); builder = record { containers = b .containers; counts = r .counts } } ⌝ }
+{
+    let cs = b.containers;
+    let c = r.counts;
+    let next = Builder {
+        containers: cs,
+        counts: c,
+    };
+    Called {
+        answer: answer_of(r.number),
+        builder: next,
+    }
+}

@@ -1,0 +1,6 @@
+-- The laws of the pieces: a name and its entry, and each call.
+pub mod EnterLaws
+pub mod AppendLaws
+pub mod CloseLaws
+pub mod UndoLaws
+pub mod OpenLaws

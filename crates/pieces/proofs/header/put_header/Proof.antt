@@ -1,0 +1,23 @@
+use borrow.Author.Needs.{needs}
+use Rattle.pieces.proofs.CloseLaws.{fronts-list, fronts-object}
+use Rattle.pieces.proofs.header.put_header.Statement.{statement}
+use Rattle.pieces.proofs.header.put_header.Tie as tie
+
+returns : tie.Need-returns
+returns c = let o = c .before .before .before .before in fronts-object (o .before .before .before .before .if1 .taken) (o .close-object .ensures)
+
+returns-2 : tie.Need-returns-2
+returns-2 c = fronts-list (c .before .before .before .before .before .if1 .left) (c .before .before .close-list .ensures)
+
+pub put-header-spec : {M : Type 1} → statement M
+put-header-spec =
+    tie.close
+    (tie.spec
+    (λ c κs. search needs)
+    (λ c. search needs)
+    (λ c. search needs)
+    returns
+    (λ c κs. search needs)
+    (λ c. search needs)
+    (λ c. search needs)
+    returns-2)

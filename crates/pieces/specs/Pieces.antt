@@ -1,0 +1,98 @@
+-- What a call over pieces of the record gives back and leaves behind, by the definitions of `run`; and, for the code, the parts
+-- that calls share.
+use mathlib.Core.Path.{_≡_}
+use mathlib.Core.Bool.{Bool, true, false, cond, not, _&&_}
+use mathlib.Core.List.{List}
+use mathlib.Core.Option.{Option}
+use Prim.Native.Nat.{ℕ, _+_, _-_, _*_}
+use lib.Dec.{eqb, ltb}
+use lib.ListN.{length, set}
+use Rattle.encoding.specs.Slices.{write}
+use Rattle.metadata.specs.declared.MetadataBuilder.{MetadataBuilder}
+use Rattle.metadata.specs.Names.{Name}
+use Rattle.metadata.specs.Calls.{added, hasRoom}
+use Rattle.container.specs.declared.Closed.{Closed}
+use Rattle.container.specs.declared.Frame.{Frame}
+use Rattle.container.specs.Entries.{entryAt, setEntry}
+use Rattle.container.specs.Close.{closedNumber, closedAt, closes, fronted}
+use Rattle.run.specs.declared.Counts.{Counts}
+use Rattle.run.specs.declared.Container.{Container}
+use Rattle.run.specs.declared.ParentEntry.{ParentEntry}
+use Rattle.run.specs.declared.ParentEntry.the-variants.{New, Replaced}
+use Rattle.run.specs.declared.View.{View}
+use Rattle.run.specs.Record.{Storage, Call, openIn, isOpen, innerSize}
+use Rattle.run.specs.Table.{appendRows, first, header, numberOf}
+use Rattle.run.specs.Step.{carriedOut, countWith, dictionaryWith, endsWith, entriesClosed, entriesWith, newContainer, textWith, withCounts}
+use Rattle.table.specs.declared.Field.{Field}
+use Rattle.pieces.specs.declared.Moved.{Moved}
+use Rattle.pieces.specs.declared.Opened.{Opened}
+use Rattle.pieces.specs.declared.enter.Entered.{Entered}
+use Rattle.pieces.specs.declared.enter.Noted.{Noted}
+
+-- the number, the counts and the storage of a call
+pub record Leaves (v : View) (l : Storage) (c : Call) (r : Moved) (after : Storage) : Type 0 where
+  pub number : r .number ≡ numberOf v l c
+  pub counts : r .counts ≡ cond (eqb (numberOf v l c) 0) (carriedOut v l c .counts) (v .counts)
+  pub storage : after ≡ cond (eqb (numberOf v l c) 0) (carriedOut v l c .storage) l
+
+-- of an open also the container
+pub record Opens (v : View) (l : Storage) (nm : Option Name) (object : Bool) (r : Opened) (after : Storage) : Type 0 where
+  pub number : r .number ≡ numberOf v l (openIn nm object)
+  pub counts : r .counts ≡ cond (eqb (numberOf v l (openIn nm object)) 0) (carriedOut v l (openIn nm object) .counts) (v .counts)
+  pub container : r .container ≡ cond (eqb (numberOf v l (openIn nm object)) 0) (newContainer v l nm object) (v .inner)
+  pub storage : after ≡ cond (eqb (numberOf v l (openIn nm object)) 0) (carriedOut v l (openIn nm object) .storage) l
+
+-- ---- a name added where it is new
+abbrev pub adds : Bool → MetadataBuilder → List ℕ → List ℕ → Name → Bool
+adds new m text ends name = new && hasRoom m text ends name
+
+pub record Registers (new : Bool) (m : MetadataBuilder) (text ends : List ℕ) (name : Name) (r : MetadataBuilder) (textAfter endsAfter : List ℕ) : Type 0 where
+  pub metadata : r ≡ cond (adds new m text ends name) (added m text ends name) m
+  pub textLeft : textAfter ≡ cond (adds new m text ends name) (write (m .text) name text) text
+  pub endsLeft : endsAfter ≡ cond (adds new m text ends name) (set ends (m .names) (m .text + length name)) ends
+
+-- ---- the entry of a field
+abbrev pub entriesBy : View → Field → List ℕ → List ℕ
+entriesBy v f es =
+    cond (f .live) (set es (2 * f .place + 1) (innerSize v))
+    (cond (isOpen v) (setEntry es (v .counts .entries) (record { id = f .id; offset = innerSize v })) es)
+
+abbrev pub noteBy : View → Field → List ℕ → Noted
+noteBy v f es =
+    cond (f .live) (record { count = v .counts .entries; parent = Replaced (f .id) (entryAt es (f .place) .offset) })
+    (cond (isOpen v) (record { count = v .counts .entries + 1; parent = New }) (record { count = v .counts .entries; parent = New }))
+
+-- what a name and its entry leave, of a call that is carried out
+pub record Enters (v : View) (l : Storage) (nm : Option Name) (r : Entered) (text ends entries : List ℕ) : Type 0 where
+  pub dictionary : r .dictionary ≡ dictionaryWith v l nm
+  pub count : r .count ≡ countWith v l nm
+  pub parent : r .parent ≡ newContainer v l nm false .parent
+  pub textLeft : text ≡ textWith v l nm
+  pub endsLeft : ends ≡ endsWith v l nm
+  pub entriesLeft : entries ≡ entriesWith v l nm
+
+-- an append up to its scalar's bytes, which rows 7, 8 and the size stand for
+abbrev pub appendCounts : View → Storage → Option Name → ℕ → Counts
+appendCounts v l nm size = withCounts (v .counts) (v .counts .value + size) (countWith v l nm) (v .counts .depth) (dictionaryWith v l nm)
+
+pub record Appends (v : View) (l : Storage) (nm : Option Name) (beyond bad : Bool) (size : ℕ) (r : Moved) (text ends entries : List ℕ) : Type 0 where
+  pub number : r .number ≡ first (appendRows v l nm beyond bad size)
+  pub counts : r .counts ≡ cond (eqb (first (appendRows v l nm beyond bad size)) 0) (appendCounts v l nm size) (v .counts)
+  pub textLeft : text ≡ cond (eqb (first (appendRows v l nm beyond bad size)) 0) (textWith v l nm) (l .text)
+  pub endsLeft : ends ≡ cond (eqb (first (appendRows v l nm beyond bad size)) 0) (endsWith v l nm) (l .ends)
+  pub entriesLeft : entries ≡ cond (eqb (first (appendRows v l nm beyond bad size)) 0) (entriesWith v l nm) (l .entries)
+
+-- ---- the innermost's header put before its data
+abbrev pub frameOf : View → Frame
+frameOf v = record { start = v .inner .value; used = v .counts .value; from = v .inner .entries; to = v .counts .entries }
+
+pub record Fronts (v : View) (l : Storage) (r : Closed) (value entries : List ℕ) : Type 0 where
+  pub number : closedNumber r ≡ closes (frameOf v) (length (l .value)) (length (l .entries)) (header v l)
+  pub used : closedAt r ≡ cond (eqb (closedNumber r) 0) (v .counts .value + length (header v l)) 0
+  pub bytes : value ≡ cond (eqb (closedNumber r) 0) (fronted (v .inner .value) (v .counts .value) (header v l) (l .value)) (l .value)
+  pub entriesLeft : entries ≡ cond (eqb (closedNumber r) 0) (entriesClosed v l) (l .entries)
+
+-- ---- a parent's entry undone: the former offset, at its place
+abbrev pub entriesUndone : List ℕ → ℕ → ParentEntry → List ℕ
+entriesUndone es place New = es
+entriesUndone es place (Replaced id offset) = set es (2 * place + 1) offset

@@ -1,0 +1,79 @@
+// The innermost container closed: `ListBuilder::finish` and `ObjectBuilder::finish` of the Rust.
+use crate::Moved;
+use container::Closed;
+use container::Frame;
+use container::close_list;
+use container::close_object;
+use run::Counts;
+use run::View;
+use table::close_number;
+ghost use mathlib.Core.Path.{_≡_};
+ghost use Rattle.run.specs.Record.{close as closeOf};
+ghost use Rattle.table.specs.Decide.{stored};
+ghost use Rattle.pieces.specs.Pieces.{Fronts, Leaves};
+
+pub fn close_over(
+    v: View,
+    value: &mut [u8],
+    text: &[u8],
+    ends: &[usize],
+    entries: &mut [usize],
+) -> Moved
+    ensures { λ r. ⌜ Leaves v (stored (now (value .entry)) (now (text .entry)) (now (ends .entry)) (now (entries .entry))) closeOf r (stored (now (value .exit)) (now (text .entry)) (now (ends .entry)) (now (entries .exit))) ⌝ }
+{
+    let n = close_number(v, value, text, ends, entries);
+    let c = v.counts;
+    if n != 0 {
+        return Moved {
+            counts: c,
+            number: n,
+        };
+    }
+    let r = put_header(v, value, text, ends, entries);
+    match r {
+        Closed::Done(used) => {
+            let m = c.dictionary;
+            Moved {
+                counts: Counts {
+                    value: used,
+                    entries: v.inner.entries,
+                    depth: c.depth - 1,
+                    dictionary: m,
+                    unique: c.unique,
+                    finished: c.finished,
+                },
+                number: 0,
+            }
+        }
+        Closed::Damaged => Moved {
+            counts: c,
+            number: 1,
+        },
+        Closed::NoRoom => Moved {
+            counts: c,
+            number: 14,
+        },
+    }
+}
+
+fn put_header(
+    v: View,
+    value: &mut [u8],
+    text: &[u8],
+    ends: &[usize],
+    entries: &mut [usize],
+) -> Closed
+    ensures { λ r. ⌜ Fronts v (stored (now (value .entry)) (now (text .entry)) (now (ends .entry)) (now (entries .entry))) r (now (value .exit)) (now (entries .exit)) ⌝ }
+{
+    let f = Frame {
+        start: v.inner.value,
+        used: v.counts.value,
+        from: v.inner.entries,
+        to: v.counts.entries,
+    };
+    if v.inner.object {
+        let m = v.counts.dictionary;
+        return close_object(f, m, text, ends, value, entries);
+    }
+    close_list(f, value, entries)
+}

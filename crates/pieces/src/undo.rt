@@ -1,0 +1,74 @@
+// The innermost container rolled back: the Rust's `Drop`.
+use crate::Moved;
+use container::replace_offset;
+use metadata::truncate_field_names;
+use run::Counts;
+use run::ParentEntry;
+use run::View;
+use table::less;
+use table::rollback_number;
+ghost use mathlib.Core.Path.{_≡_};
+ghost use mathlib.Core.Bool.{cond};
+ghost use lib.Dec.{ltb};
+ghost use Rattle.run.specs.Record.{rollBack};
+ghost use Rattle.run.specs.Step.{countBack};
+ghost use Rattle.table.specs.Decide.{stored};
+ghost use Rattle.pieces.specs.Pieces.{Leaves, entriesUndone};
+
+pub fn rollback_over(
+    v: View,
+    value: &[u8],
+    text: &[u8],
+    ends: &[usize],
+    entries: &mut [usize],
+) -> Moved
+    ensures { λ r. ⌜ Leaves v (stored (now (value .entry)) (now (text .entry)) (now (ends .entry)) (now (entries .entry))) rollBack r (stored (now (value .entry)) (now (text .entry)) (now (ends .entry)) (now (entries .exit))) ⌝ }
+{
+    let d = rollback_number(v, value, text, ends, entries);
+    let c = v.counts;
+    if d.number != 0 {
+        return Moved {
+            counts: c,
+            number: d.number,
+        };
+    }
+    let k = v.inner;
+    let p = k.parent;
+    let count = undo(1 < c.depth, p, k.entries, d.place, entries);
+    let m = c.dictionary;
+    let cut = truncate_field_names(m, k.names, k.text);
+    Moved {
+        counts: Counts {
+            value: k.value,
+            entries: count,
+            depth: c.depth - 1,
+            dictionary: cut,
+            unique: c.unique,
+            finished: c.finished,
+        },
+        number: 0,
+    }
+}
+
+// Below the top level the parent's entry: the former offset again for a replaced one, one entry less for a new one. The result
+// is how many entries are used.
+fn undo(
+    below: bool,
+    parent: ParentEntry,
+    count: usize,
+    place: usize,
+    entries: &mut [usize],
+) -> usize
+    ensures { λ r. ⌜ (r ≡ cond below (countBack count parent) count) × (now (entries .exit) ≡ cond below (entriesUndone (now (entries .entry)) place parent) (now (entries .entry))) ⌝ }
+{
+    if !below {
+        return count;
+    }
+    match parent {
+        ParentEntry::New => less(count, 1),
+        ParentEntry::Replaced { id: _, offset } => {
+            replace_offset(entries, place, offset);
+            count
+        }
+    }
+}

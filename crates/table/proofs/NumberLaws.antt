@@ -1,0 +1,101 @@
+-- A call's number, from what the functions that it rests on answer.
+use mathlib.Core.Path.{_≡_, refl, sym}
+use mathlib.Core.Bool.{Bool, true, false, cond, not, _&&_, _||_, or-false}
+use Prim.Native.Nat.{ℕ, _≤_}
+use lib.Dec.{eqb, ltb}
+use lib.ListN.{length, take}
+use borrow.Author.Tests.{eqb-true}
+use Rattle.encoding.specs.Utf8.{utf8}
+use Rattle.metadata.specs.Names.{Name, intact, namesOf, place}
+use Rattle.metadata.specs.Calls.{Told, hasRoom, lookup, refused}
+use Rattle.container.specs.declared.Search.{Search}
+use Rattle.container.specs.Entries.{Searches, roomFor}
+use Rattle.run.specs.declared.ParentEntry.the-variants.{New, Replaced}
+use Rattle.run.specs.declared.View.{View}
+use Rattle.run.specs.Record.{Storage, register, close, rollBack, uniqueness, isOpen, inObject, innerSize, parentSize}
+use Rattle.run.specs.Damage.{unchained, fallenEnds, misplacedInner, misplacedParent, damagedParent}
+use Rattle.run.specs.Table.{first, rows, numberOf, held}
+use Rattle.table.specs.declared.numbers.Parent.{Parent}
+use Rattle.table.specs.declared.lookup.Known.{Known}
+use Rattle.table.specs.Decide.{ParentOf, RegistersBy, Undoes, brokenOf, toldBy}
+use Rattle.table.proofs.ViewLaws.{both}
+pub use Rattle.table.proofs.ViewLaws.{broken-number, broken-close, damaged-none, entries-within, inner-within, ends-read, range-within, found-before, none-before}
+
+-- ---- a roll back's parent
+module _ (v : View) (l : Storage) (h : v .inner .entries ≤ roomFor (length (l .entries))) (s : Search) where
+  -- of a new child: the parent has an entry
+  pub parent-new : v .inner .parent ≡ New → Searches (l .entries) (v .parent .entries) (v .inner .entries) (v .parent .object) (v .counts .dictionary .names) (parentSize v) 0 s
+      → ParentOf v l (record { place = 0; damaged = s .misplaced || not (ltb (v .parent .entries) (v .inner .entries)) })
+  unfolding misplacedParent
+  parent-new e q = record { damaged = rw (e, q .misplacedAny, range-within _ _ _ h, none-before (l .entries) (v .parent .entries) (v .inner .entries)); place = rw e }
+
+  -- of a child that replaced another: the parent has an entry of its id, and enough data
+  pub parent-replaced : (id offset : ℕ) → v .inner .parent ≡ Replaced id offset
+      → Searches (l .entries) (v .parent .entries) (v .inner .entries) (v .parent .object) (v .counts .dictionary .names) (parentSize v) id s
+      → ParentOf v l (record { place = s .place; damaged = s .misplaced || (not (v .parent .object) || (not (ltb (s .place) (v .inner .entries)) || ltb (parentSize v) offset)) })
+  unfolding misplacedParent
+  parent-replaced id offset e q = record { damaged = rw (e, q .misplacedAny, q .placeFirst, range-within _ _ _ h, found-before (l .entries) (v .parent .entries) (v .inner .entries) id); place = rw (e, q .placeFirst, range-within _ _ _ h) }
+
+-- ---- the rows of a roll back, and its answer
+module _ (v : View) (l : Storage) (p : Parent) (n : ℕ) (unbroken : brokenOf v l ≡ false) (parent : ParentOf v l p)
+    (by : n ≡ cond (ltb 1 (v .counts .depth) && p .damaged) 1 (cond (v .counts .finished) 2 (cond (not (isOpen v)) 3 0))) where
+  rollback-rows : n ≡ numberOf v l rollBack
+  unfolding first numberOf damagedParent
+  rollback-rows = rw (damaged-none v l (damagedParent v l) unbroken, by, parent .damaged)
+
+  -- below the top level an entry of the parent gets its former offset again
+  pub undoes-place : (eqb n 0 && ltb 1 (v .counts .depth)) ≡ true → Undoes (numberOf v l rollBack) v l (record { place = p .place; number = 0 })
+  undoes-place t = rw (← rollback-rows) (record { number = sym (eqb-true n 0 (both (eqb n 0) _ t .0)); place = rw t (parent .place) })
+
+  -- else none does
+  pub undoes-none : (eqb n 0 && ltb 1 (v .counts .depth)) ≡ false → Undoes (numberOf v l rollBack) v l (record { place = 0; number = n })
+  undoes-none t = rw (← rollback-rows) (record { number = refl; place = rw t })
+
+-- ---- the rows of a close
+
+-- what the code answers after `broken`
+pub close-rows : (v : View) (l : Storage) (s : Search) → brokenOf v l ≡ false
+    → Searches (l .entries) (v .inner .entries) (v .counts .entries) (v .inner .object) (v .counts .dictionary .names) (innerSize v) 0 s
+    → cond (not (intact (v .counts .dictionary) (l .text) (l .ends)) || (isOpen v && s .misplaced)) 1 (cond (v .counts .finished) 2 (cond (not (isOpen v)) 3 0))
+    ≡ first (take 3 (rows v l close))
+unfolding first misplacedInner
+close-rows v l s e q = rw (ends-read v l e, damaged-none v l (fallenEnds v l || misplacedInner v l) e, q .misplacedAny, range-within _ _ _ (entries-within v l e))
+
+-- ---- the rows of a name to register, and its answer
+
+-- rows 2 and 4 before a number x: only where all are 0 does the mark count
+late : (f o : Bool) (x : ℕ) (p q : Bool) → (eqb x 0 && p) ≡ cond (eqb x 0) q false → (eqb (cond f 2 (cond o 4 x)) 0 && p) ≡ cond (eqb (cond f 2 (cond o 4 x)) 0) q false
+late true o x p q e = refl
+late false true x p q e = refl
+late false false x p q e = e
+
+-- by what the look-up and the rows ask: the ends are intact, finished, open, the name is UTF-8, held, has room
+register-cases : (i f o u h r : Bool) (at next : ℕ) (k : Told) (n : ℕ)
+    → k ≡ cond (not i) (refused 1) (cond (not u) (refused 9) (cond h (record { number = 0; id = at; new = false }) (cond r (record { number = 0; id = next; new = true }) (refused 12))))
+    → n ≡ cond (eqb (k .number) 1) 1 (cond f 2 (cond o 4 (k .number)))
+    → (let m : ℕ = cond (not i) 1 (cond f 2 (cond o 4 (cond (not u) 9 (cond (not h && not r) 12 0)))) in
+    (n ≡ m) × ((eqb n 0 && k .new) ≡ cond (eqb m 0) (not h) false))
+register-cases false f o u h r at next k n e q = (rw (q, e), rw (q, e))
+register-cases true f o false h r at next k n e q = (rw (q, e), rw (q, e) (late f o 9 false (not h) refl))
+register-cases true f o true true r at next k n e q = (rw (q, e), rw (q, e) (late f o 0 false false refl))
+register-cases true f o true false true at next k n e q = (rw (q, e), rw (q, e) (late f o 0 true true refl))
+register-cases true f o true false false at next k n e q = (rw (q, e), rw (q, e) (late f o 12 false true refl))
+
+-- the number, and whether the name is new
+pub registers : (v : View) (l : Storage) (name : Name) (k : Known) (n : ℕ) → brokenOf v l ≡ false → toldBy k ≡ lookup (v .counts .dictionary) (l .text) (l .ends) name
+    → n ≡ cond (eqb (k .number) 1) 1 (cond (v .counts .finished) 2 (cond (isOpen v) 4 (k .number)))
+    → RegistersBy (numberOf v l (register name)) v l name (record { number = n; new = eqb n 0 && k .new })
+unfolding first numberOf lookup
+registers v l name k n e q r =
+    let m = v .counts .dictionary in
+    let c = register-cases (intact m (l .text) (l .ends)) (v .counts .finished) (isOpen v) (utf8 name) (held v l name) (hasRoom m (l .text) (l .ends) name) (place name (namesOf m (l .text) (l .ends))) (m .names) (toldBy k) n q r in
+    let d = damaged-none v l (fallenEnds v l) e in
+    let x = sym (ends-read v l e) in
+    record { number = rw (d, x) (c .0); new = rw (d, x) (c .1) }
+
+-- ---- the rows of a uniqueness mark to set
+
+-- what the code answers
+pub unique-rows : (v : View) (l : Storage) (u : Bool) → cond (brokenOf v l) 1 (cond (v .counts .finished) 2 (cond (not (inObject v)) 3 0)) ≡ numberOf v l (uniqueness u)
+unfolding first numberOf
+unique-rows v l u = rw (or-false (unchained v))

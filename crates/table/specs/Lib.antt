@@ -1,0 +1,2 @@
+-- What the numbers are decided on: a call's name, its field, and what stands in the lent slices.
+pub mod Decide

@@ -1,0 +1,41 @@
+// The rows of document 01's table of refused calls, decided over what a call sees of the record and over the lent slices.
+// Nothing is written here; the calls are in the crate `builder`.
+mod lookup;
+mod numbers;
+mod view;
+
+pub use numbers::append_number;
+pub use numbers::close_number;
+pub use numbers::open_number;
+pub use numbers::register_number;
+pub use numbers::rollback_number;
+pub use numbers::unique_number;
+pub use view::less;
+pub use view::unique_now;
+
+// What a field name means to a call: its id, the place of its entry in the innermost container where it is live there, whether
+// it is new to the dictionary, and whether it is live.
+pub struct Field {
+    pub id: usize,
+    pub place: usize,
+    pub new: bool,
+    pub live: bool,
+}
+
+// A call's number, 0 where it is to be carried out, and then its field.
+pub struct Decided {
+    pub field: Field,
+    pub number: u8,
+}
+
+// A registered name's number, and then whether it is new.
+pub struct Registers {
+    pub number: u8,
+    pub new: bool,
+}
+
+// A roll back's number, and then the place of the parent's entry that gets its former offset again.
+pub struct Undone {
+    pub place: usize,
+    pub number: u8,
+}

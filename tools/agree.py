@@ -693,9 +693,10 @@ use Rattle.container.specs.Sort.{insert, sort}
 use Rattle.container.specs.Close.{fronted}
 use Rattle.run.specs.declared.ParentEntry.the-variants.{New, Replaced}
 use Rattle.run.specs.Record.{fixed, bytes, uuid, register, append, openIn, close, rollBack, uniqueness, finish}
-use Rattle.run.specs.Damage.{overUsed, rising, unchained, fallenEnds, misplacedInner, misplacedParent, damagedParent, damaged}
+use Rattle.run.specs.Record.{rising, chained}
+use Rattle.run.specs.Damage.{overUsed, unchained, fallenEnds, misplacedInner, misplacedParent, damagedParent}
 use Rattle.run.specs.Table.{header, first, numberOf}
-use Rattle.run.specs.Step.{registered, appended, opened, entriesClosed, closed, rolledBack, finished, dictionaryOf, step}
+use Rattle.run.specs.Step.{registered, appended, opened, newContainer, entriesClosed, closed, rolledBack, finished, dictionaryOf, after, step}
 use Rattle.run.specs.Step as steps
 use Rattle.agree.specs.Compare.{Check, box, state, leaves, refuses, alike, alikeParents, alikeContainers, begins, alikeCounts, alikeStorage, alikeStates, agrees, faults}
 
@@ -703,8 +704,8 @@ use Rattle.agree.specs.Compare.{Check, box, state, leaves, refuses, alik
 
 UNFOLDING = ("width le les number twos whole table follow rest utf8 write shift scalarBytes cuts namesOf risen intact same place below "
              "joined endsFrom laidOut dictionary marked listHeaderAt listHeader objectHeaderAt largest objectHeader entriesOf putEntries "
-             "seek misplaced insert sort fronted overUsed rising unchained fallenEnds misplacedInner misplacedParent damagedParent damaged "
-             "header first numberOf registered appended opened entriesClosed closed rolledBack finished dictionaryOf step steps.marked "
+             "seek misplaced insert sort fronted overUsed rising chained unchained fallenEnds misplacedInner misplacedParent damagedParent "
+             "header first numberOf registered appended opened newContainer entriesClosed closed rolledBack finished dictionaryOf after step steps.marked "
              "alike alikeParents alikeContainers begins alikeCounts alikeStorage alikeStates agrees faults")
 
 

@@ -13,7 +13,7 @@ use Rattle.run.specs.declared.Builder.{Builder}
 use Rattle.run.specs.declared.Container.{Container}
 use Rattle.run.specs.declared.Counts.{Counts}
 use Rattle.run.specs.declared.View.{View}
-use Rattle.run.specs.Record.{Storage, Call, openIn, uniqueness, viewOf, innermost, inObject, rising, chained}
+use Rattle.run.specs.Record.{Storage, Call, openIn, uniqueness, finish, viewOf, innermost, inObject, rising, chained}
 use Rattle.run.specs.Damage.{overUsed, grown, unchained}
 use Rattle.run.proofs.Demand1.{number-none}
 use Rattle.run.specs.Table.{numberOf}
@@ -21,10 +21,13 @@ use Rattle.run.specs.Step.{step, after, carriedOut, containersAfter, newContain
 use Rattle.builder.specs.declared.Answer.{Answer}
 use Rattle.builder.specs.declared.Answer.the-variants.{Done, Refused}
 use Rattle.builder.specs.declared.Called.{Called}
+use Rattle.builder.specs.declared.FinishAnswer.the-variants as finished
+use Rattle.builder.specs.declared.FinishCalled.{FinishCalled}
 use Rattle.pieces.specs.declared.Moved.{Moved}
 use Rattle.pieces.specs.declared.Opened.{Opened}
-use Rattle.builder.specs.Calls.{answerNumber, answerOf, state, calledBy, Does}
-use Rattle.pieces.specs.Pieces.{Leaves, Opens}
+use Rattle.builder.specs.Calls.{answerNumber, answerOf, state, calledBy, Does, finishNumber, bytesWritten, finishAnswer, Finishes}
+use Rattle.pieces.specs.declared.Ended.{Ended}
+use Rattle.pieces.specs.Pieces.{Leaves, Opens, Ends}
 
 -- an answer has the number that it is made of
 pub answer-number : (n : ℕ) → answerNumber (answerOf n) ≡ n
@@ -33,6 +36,21 @@ answer-number n = go (eqb n 0) refl
     go : (t : Bool) → eqb n 0 ≡ t → answerNumber (cond t Done (Refused n)) ≡ n
     go true e = sym (eqb-true n 0 e)
     go false e = refl
+
+-- and so has a finish's, with the bytes written
+pub finish-answer-number : (n w : ℕ) → finishNumber (finishAnswer n w) ≡ n
+finish-answer-number n w = go (eqb n 0) refl
+  where
+    go : (t : Bool) → eqb n 0 ≡ t → finishNumber (cond t (finished.Written w) (finished.Refused n)) ≡ n
+    go true e = sym (eqb-true n 0 e)
+    go false e = refl
+
+pub finish-answer-written : (n w : ℕ) → bytesWritten (finishAnswer n w) ≡ cond (eqb n 0) w 0
+finish-answer-written n w = go (eqb n 0)
+  where
+    go : (t : Bool) → bytesWritten (cond t (finished.Written w) (finished.Refused n)) ≡ cond t w 0
+    go true = refl
+    go false = refl
 
 -- ---- a step by its number
 
@@ -121,3 +139,14 @@ module _ (b : Builder) (l : Storage) (u : Bool) {v : View} {n : ℕ} (p : v ≡ 
       or-parts : (x y : Bool) → (x || y) ≡ false → (x ≡ false) × (y ≡ false)
       or-parts true y e = absurd (true≢false e)
       or-parts false y e = (refl, e)
+
+-- a finish
+pub does-finished : (b : Builder) (l : Storage) (out : List ℕ) {v : View} {r : Ended} {left : List ℕ} {x : FinishCalled} → v ≡ viewOf b → Ends v l out r left
+    → x ≡ record { answer = finishAnswer (r .number) (r .written); builder = record { containers = b .containers; counts = r .counts } }
+    → Finishes x l left (step (state b l) (finish out))
+unfolding step after
+does-finished b l out {v} {r} {left} {x} p q d = go (eqb (numberOf (viewOf b) l (finish out)) 0) refl (rw p at q)
+  where
+    go : (t : Bool) → eqb (numberOf (viewOf b) l (finish out)) 0 ≡ t → Ends (viewOf b) l out r left → Finishes x l left (step (state b l) (finish out))
+    go true z q = rw (d, q .number, q .counts, q .written, q .output, z) (refl, refl, refl)
+    go false z q = rw (d, q .number, q .counts, q .written, q .output, z) (rw z, refl, refl)

@@ -12,6 +12,9 @@ use Rattle.run.specs.Step.{Outcome}
 use Rattle.builder.specs.declared.Answer.{Answer}
 use Rattle.builder.specs.declared.Answer.the-variants.{Done, Refused}
 use Rattle.builder.specs.declared.Called.{Called}
+use Rattle.builder.specs.declared.FinishAnswer.{FinishAnswer}
+use Rattle.builder.specs.declared.FinishAnswer.the-variants as finished
+use Rattle.builder.specs.declared.FinishCalled.{FinishCalled}
 
 -- document 01, "Every refusal returns its number only": an answer's number, 0 where the call is carried out
 abbrev pub answerNumber : Answer → ℕ
@@ -31,6 +34,29 @@ calledBy o = record { answer = answerOf (o .number); builder = o .state .builder
 -- what a call gives back and the storage then are those of the step
 abbrev pub Does : Called → Storage → Outcome → Type 0
 Does r after o = (r ≡ calledBy o) × (after ≡ o .state .storage)
+
+-- ---- finish, which also says how many bytes it wrote
+
+-- its answer's number, 0 where it is carried out
+abbrev pub finishNumber : FinishAnswer → ℕ
+finishNumber (finished.Written w) = 0
+finishNumber (finished.Refused n) = n
+
+-- the bytes of the dictionary in its output; 0 where it is refused, "its number only"
+abbrev pub bytesWritten : FinishAnswer → ℕ
+bytesWritten (finished.Written w) = w
+bytesWritten (finished.Refused n) = 0
+
+-- the answer of that number, and of so many bytes written
+abbrev pub finishAnswer : ℕ → ℕ → FinishAnswer
+finishAnswer n w = cond (eqb n 0) (finished.Written w) (finished.Refused n)
+
+abbrev pub finishCalledBy : Outcome → FinishCalled
+finishCalledBy o = record { answer = finishAnswer (o .number) (o .written); builder = o .state .builder }
+
+-- what it gives back, the storage then and its output then, document 01's "each call's own", are those of the step
+abbrev pub Finishes : FinishCalled → Storage → List ℕ → Outcome → Type 0
+Finishes r after out o = (r ≡ finishCalledBy o) × (after ≡ o .state .storage) × (out ≡ o .output)
 
 -- document 01, "A fresh builder: nothing used or open, the sorted mark off, no finish accepted, either uniqueness mark". Its
 -- containers, which are left free, are all empty.

@@ -1,5 +1,7 @@
 // The calls over the whole record, by value: each picks what it sees of the record, calls its piece, and puts the result back.
 use crate::Called;
+use crate::FinishAnswer;
+use crate::FinishCalled;
 use crate::view::answer_of;
 use crate::view::called;
 use crate::view::view_of;
@@ -7,6 +9,7 @@ use pieces::append_bytes_over;
 use pieces::append_uuid_over;
 use pieces::append_value_over;
 use pieces::close_over;
+use pieces::finish_over;
 use pieces::open_over;
 use pieces::register;
 use pieces::rollback_over;
@@ -17,10 +20,10 @@ use value::variant::Variant;
 use value::variant::VariantBytes;
 ghost use mathlib.Core.Path.{_≡_};
 ghost use mathlib.Core.Bool.{false, true};
-ghost use Rattle.run.specs.Record.{append as appendOf, bytes as bytesOf, close as closeOf, fixed, openIn, register as registerOf, rollBack, uniqueness, uuid as uuidOf};
+ghost use Rattle.run.specs.Record.{append as appendOf, bytes as bytesOf, close as closeOf, finish as finishOf, fixed, openIn, register as registerOf, rollBack, uniqueness, uuid as uuidOf};
 ghost use Rattle.run.specs.Step.{step};
 ghost use Rattle.table.specs.Decide.{nameOf, stored};
-ghost use Rattle.builder.specs.Calls.{Does, state};
+ghost use Rattle.builder.specs.Calls.{Does, Finishes, finishAnswer, state};
 
 // A name given beforehand, at the top level.
 pub fn add_field_name(
@@ -226,4 +229,38 @@ pub fn with_validate_unique_fields(
         answer: answer_of(0),
         builder: next,
     }
+}
+
+// The dictionary at the start of `out`, and the builder finished: `VariantBuilder::finish` of the Rust.
+pub fn finish(
+    b: Builder,
+    value: &[u8],
+    text: &[u8],
+    ends: &[usize],
+    entries: &[usize],
+    out: &mut [u8],
+) -> FinishCalled
+    ensures { λ r. ⌜ Finishes r (stored (now (value .entry)) (now (text .entry)) (now (ends .entry)) (now (entries .entry))) (now (out .exit)) (step (state b (stored (now (value .entry)) (now (text .entry)) (now (ends .entry)) (now (entries .entry)))) (finishOf (now (out .entry)))) ⌝ }
+{
+    let v = view_of(b);
+    let r = finish_over(v, value, text, ends, entries, out);
+    let cs = b.containers;
+    let c = r.counts;
+    let next = Builder {
+        containers: cs,
+        counts: c,
+    };
+    FinishCalled {
+        answer: finish_answer(r.number, r.written),
+        builder: next,
+    }
+}
+
+fn finish_answer(n: u8, written: usize) -> FinishAnswer
+    ensures { λ r. ⌜ r ≡ finishAnswer n written ⌝ }
+{
+    if n == 0 {
+        return FinishAnswer::Written(written);
+    }
+    FinishAnswer::Refused(n)
 }

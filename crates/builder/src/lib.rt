@@ -26,6 +26,7 @@ pub use calls::append_bytes;
 pub use calls::append_uuid;
 pub use calls::append_value;
 pub use calls::close;
+pub use calls::finish;
 pub use calls::new_list;
 pub use calls::new_object;
 pub use calls::rollback;
@@ -41,5 +42,17 @@ pub enum Answer {
 // A call's answer, and the builder then.
 pub struct Called {
     pub answer: Answer,
+    pub builder: Builder,
+}
+
+// Finish's answer: the bytes written into its output, or the number.
+pub enum FinishAnswer {
+    Written(usize),
+    Refused(u8),
+}
+
+// Finish's answer, and the builder then.
+pub struct FinishCalled {
+    pub answer: FinishAnswer,
     pub builder: Builder,
 }

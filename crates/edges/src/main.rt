@@ -1,13 +1,16 @@
 // The builder's edges, one line a case: its name; the answers of its first calls and of its last, each 0 or the number of the
-// first call refused; names and value bytes then used; the first 16 of these bytes. Calls are written as bytes: see `call`.
+// first call refused; names and value bytes then used; the first 16 of these bytes; where the last calls finish, the
+// dictionary. Calls are written as bytes: see `next` and `call`.
 // The file `stdout` was not made by this program but by a model of document 01 written apart from this code.
 use builder::Answer;
 use builder::Called;
+use builder::FinishAnswer;
 use builder::add_field_name;
 use builder::append_bytes;
 use builder::append_uuid;
 use builder::append_value;
 use builder::close;
+use builder::finish;
 use builder::new;
 use builder::new_list;
 use builder::new_object;
@@ -30,6 +33,7 @@ fn main() {
     damaged_counts();
     damaged_children();
     damaged_storage();
+    damaged_finish();
     finished();
     places();
     scalars();
@@ -38,29 +42,33 @@ fn main() {
     full_names();
     full_entries();
     full_value();
+    no_value();
+    full_output();
 }
 
-// The number of the first call refused, or 0, and the builder then.
+// The number of the first call refused, or 0; the dictionary's bytes, if the calls finished; the builder then.
 struct Answered {
     number: u8,
+    written: usize,
     builder: Builder,
 }
 
 fn sizes() {
     let mut n255 = [b'n'; 256];
     n255[0] = b'[';
-    case(b"list of 255 nulls", &n255, b"]");
+    case(b"list of 255 nulls", &n255, b"].");
     let mut n256 = [b'n'; 257];
     n256[0] = b'[';
-    case(b"list of 256 nulls", &n256, b"]");
-    case(b"text of 63 bytes", b"", b"t");
-    case(b"text of 64 bytes", b"", b"T");
-    case(b"uuid", b"", b"i");
+    case(b"list of 256 nulls", &n256, b"].");
+    case(b"text of 63 bytes", b"", b"t.");
+    case(b"text of 64 bytes", b"", b"T.");
+    case(b"uuid", b"", b"i.");
 }
 
 fn depths() {
     let opened = [b'['; 64];
-    let closed = [b']'; 64];
+    let mut closed = [b']'; 65];
+    closed[64] = b'.';
     case(b"depth 64", &opened, &closed);
     case(b"depth 65", &opened, b"[");
 }
@@ -68,25 +76,29 @@ fn depths() {
 // A null in the innermost list; that list rolled back, and the others closed.
 fn rolled_back() {
     case(b"roll back at depth 1", b"[n", b"<");
-    case(b"roll back at depth 2", b"[[n", b"<]");
+    case(b"roll back at depth 2", b"[[n", b"<].");
     let mut opened63 = [b'['; 64];
     opened63[63] = b'n';
-    let mut closed62 = [b']'; 63];
+    let mut closed62 = [b']'; 64];
     closed62[0] = b'<';
+    closed62[63] = b'.';
     case(b"roll back at depth 63", &opened63, &closed62);
     let mut opened64 = [b'['; 65];
     opened64[64] = b'n';
-    let mut closed63 = [b']'; 64];
+    let mut closed63 = [b']'; 65];
     closed63[0] = b'<';
+    closed63[64] = b'.';
     case(b"roll back at depth 64", &opened64, &closed63);
 }
 
 fn children() {
-    case(b"field replaced", b"{a", b"a]");
-    case(b"replacing child closed", b"{a", b"A]]");
-    case(b"replacing child rolled back", b"{ba", b"An<]");
-    case(b"another after it", b"{baAn<", b"An<]");
-    case(b"new child rolled back", b"{b", b"An<]");
+    case(b"field replaced", b"{a", b"a].");
+    case(b"replacing child closed", b"{a", b"A]].");
+    case(b"replacing child rolled back", b"{ba", b"An<].");
+    case(b"another after it", b"{baAn<", b"An<].");
+    case(b"new child rolled back", b"{b", b"An<].");
+    case(b"its name used again", b"{bAn<", b"a].");
+    case(b"object rolled back", b"{b", b"<n.");
 }
 
 fn damaged_counts() {
@@ -127,9 +139,24 @@ fn damaged_storage() {
     entry(b"not 1, id", b"{a", Entry { id: 0, offset: 0 });
 }
 
+fn damaged_finish() {
+    name_end(b"number 1, name end at finish", b"1n", 2, b".");
+    name_end(b"not 1, name end at finish", b"1n", 1, b".");
+    name_end(b"number 1, falling name end", b"12n", 3, b".");
+    name_end(b"not 1, falling name end", b"12n", 2, b".");
+}
+
 fn finished() {
-    from(b"number 2", record(0, 0, true), b"", b"n");
-    from(b"not 2", record(0, 0, false), b"", b"n");
+    from(b"number 2, mark alone", record(0, 0, true), b"", b"n");
+    from(b"not 2, mark alone", record(0, 0, false), b"", b"n");
+    case(b"number 2, append", b"n.", b"n");
+    case(b"number 2, open", b"n.", b"[");
+    case(b"number 2, close", b"n.", b"]");
+    case(b"number 2, roll back", b"n.", b"<");
+    case(b"number 2, mark", b"n.", b"!");
+    case(b"number 2, register", b"n.", b"1");
+    case(b"number 2, finish", b"n.", b".");
+    case(b"not 2, refused before", b".", b"n.");
 }
 
 fn places() {
@@ -141,6 +168,8 @@ fn places() {
     case(b"not 3, mark", b"{", b"!");
     case(b"number 4", b"[", b"1");
     case(b"not 4", b"[]", b"1");
+    case(b"number 4, finish", b"[", b".");
+    case(b"not 4, finish", b"[]", b".");
     case(b"number 5, named", b"", b"a");
     case(b"not 5, named", b"{", b"a");
     case(b"number 5, unnamed", b"{", b"n");
@@ -208,6 +237,32 @@ fn full_value() {
     in_value(b"not 14, header", &mut three, b"[", b"]");
 }
 
+fn no_value() {
+    case(b"number 15", b"", b".");
+    case(b"not 15", b"n", b".");
+    case(b"number 15, named", b"1", b".");
+    case(b"not 15, named", b"1n", b".");
+    case(b"number 15, rolled back", b"[n<", b".");
+    case(b"not 15, rolled back", b"[n<n", b".");
+}
+
+fn full_output() {
+    let mut two = [0u8; 2];
+    let mut three = [0u8; 3];
+    let mut four = [0u8; 4];
+    let mut five = [0u8; 5];
+    let mut six = [0u8; 6];
+    let mut seven = [0u8; 7];
+    in_output(b"number 16", &mut two, b"n");
+    in_output(b"not 16", &mut three, b"n");
+    in_output(b"number 16, a name", &mut four, b"1n");
+    in_output(b"not 16, a name", &mut five, b"1n");
+    in_output(b"number 16, two names", &mut six, b"21n");
+    in_output(b"not 16, two names", &mut seven, b"21n");
+    in_output(b"number 16, a name rolled back", &mut four, b"{bAn<]");
+    in_output(b"not 16, a name rolled back", &mut five, b"{bAn<]");
+}
+
 // A fresh builder's record, with three of its counts and marks as given.
 fn record(value: usize, depth: usize, finished: bool) -> Builder {
     let b = new(false);
@@ -233,6 +288,7 @@ fn child(label: &[u8], mark: usize, parent: ParentEntry) {
     let mut text = [0u8; 1];
     let mut ends = [0usize; 1];
     let mut entries = [0usize; 2];
+    let mut out = [0u8; 8];
     let fresh = new(false);
     let r = run(
         fresh,
@@ -240,9 +296,24 @@ fn child(label: &[u8], mark: usize, parent: ParentEntry) {
         &mut text,
         &mut ends,
         &mut entries,
+        &mut out,
         b"{aA",
     );
     let b = r.builder;
+    let next = altered(b, mark, parent);
+    let s = run(
+        next,
+        &mut value,
+        &mut text,
+        &mut ends,
+        &mut entries,
+        &mut out,
+        b"<",
+    );
+    line(label, r.number, s, &value, &out);
+}
+
+fn altered(b: Builder, mark: usize, parent: ParentEntry) -> Builder {
     let c = b.counts;
     let mut cs = b.containers;
     cs[1] = Container {
@@ -254,12 +325,10 @@ fn child(label: &[u8], mark: usize, parent: ParentEntry) {
         object: false,
         unique: false,
     };
-    let next = Builder {
+    Builder {
         containers: cs,
         counts: c,
-    };
-    let s = run(next, &mut value, &mut text, &mut ends, &mut entries, b"<");
-    line(label, r.number, s, &value);
+    }
 }
 
 // The end of the first name altered.
@@ -268,6 +337,7 @@ fn name_end(label: &[u8], before: &[u8], end: usize, last: &[u8]) {
     let mut text = [0u8; 2];
     let mut ends = [0usize; 2];
     let mut entries = [0usize; 2];
+    let mut out = [0u8; 8];
     let fresh = new(false);
     let r = run(
         fresh,
@@ -275,12 +345,21 @@ fn name_end(label: &[u8], before: &[u8], end: usize, last: &[u8]) {
         &mut text,
         &mut ends,
         &mut entries,
+        &mut out,
         before,
     );
     ends[0] = end;
     let b = r.builder;
-    let s = run(b, &mut value, &mut text, &mut ends, &mut entries, last);
-    line(label, r.number, s, &value);
+    let s = run(
+        b,
+        &mut value,
+        &mut text,
+        &mut ends,
+        &mut entries,
+        &mut out,
+        last,
+    );
+    line(label, r.number, s, &value, &out);
 }
 
 // The first entry altered before a close.
@@ -289,6 +368,7 @@ fn entry(label: &[u8], before: &[u8], e: Entry) {
     let mut text = [0u8; 2];
     let mut ends = [0usize; 2];
     let mut entries = [0usize; 2];
+    let mut out = [0u8; 8];
     let fresh = new(false);
     let r = run(
         fresh,
@@ -296,12 +376,21 @@ fn entry(label: &[u8], before: &[u8], e: Entry) {
         &mut text,
         &mut ends,
         &mut entries,
+        &mut out,
         before,
     );
     put_entry(&mut entries, 0, e);
     let b = r.builder;
-    let s = run(b, &mut value, &mut text, &mut ends, &mut entries, b"]");
-    line(label, r.number, s, &value);
+    let s = run(
+        b,
+        &mut value,
+        &mut text,
+        &mut ends,
+        &mut entries,
+        &mut out,
+        b"]",
+    );
+    line(label, r.number, s, &value, &out);
 }
 
 // The name 1 registered last.
@@ -346,6 +435,35 @@ fn in_value(label: &[u8], value: &mut [u8], before: &[u8], last: &[u8]) {
     );
 }
 
+// A finish last, into the output given.
+fn in_output(label: &[u8], out: &mut [u8], before: &[u8]) {
+    let mut value = [0u8; 8];
+    let mut text = [0u8; 2];
+    let mut ends = [0usize; 2];
+    let mut entries = [0usize; 6];
+    let b = new(false);
+    let r = run(
+        b,
+        &mut value,
+        &mut text,
+        &mut ends,
+        &mut entries,
+        out,
+        before,
+    );
+    let next = r.builder;
+    let s = run(
+        next,
+        &mut value,
+        &mut text,
+        &mut ends,
+        &mut entries,
+        out,
+        b".",
+    );
+    line(label, r.number, s, &value, out);
+}
+
 fn case(label: &[u8], before: &[u8], last: &[u8]) {
     from(label, new(false), before, last);
 }
@@ -377,13 +495,14 @@ fn over(
     before: &[u8],
     last: &[u8],
 ) {
-    let r = run(b, value, text, ends, entries, before);
+    let mut out = [0u8; 32];
+    let r = run(b, value, text, ends, entries, &mut out, before);
     let next = r.builder;
-    let s = run(next, value, text, ends, entries, last);
-    line(label, r.number, s, value);
+    let s = run(next, value, text, ends, entries, &mut out, last);
+    line(label, r.number, s, value, &out);
 }
 
-fn line(label: &[u8], before: u8, s: Answered, value: &[u8]) {
+fn line(label: &[u8], before: u8, s: Answered, value: &[u8], out: &[u8]) {
     show::text(label);
     show::text(b": ");
     show::number(before as usize);
@@ -399,6 +518,10 @@ fn line(label: &[u8], before: u8, s: Answered, value: &[u8]) {
         show::text(b", ");
         show::front(value, used);
     }
+    if 0 < s.written {
+        show::text(b", dictionary ");
+        show::hex(out, s.written);
+    }
     show::text(b"\n");
 }
 
@@ -409,38 +532,71 @@ fn run(
     text: &mut [u8],
     ends: &mut [usize],
     entries: &mut [usize],
+    out: &mut [u8],
     calls: &[u8],
 ) -> Answered {
     let mut r = Answered {
         number: 0,
+        written: 0,
         builder: start,
     };
     let mut i = 0;
     while i < calls.len() {
         let c = calls[i];
         i += 1;
-        r = next(r, value, text, ends, entries, c);
+        r = next(r, value, text, ends, entries, out, c);
     }
     r
 }
 
+// A dot finishes.
 fn next(
     r: Answered,
     value: &mut [u8],
     text: &mut [u8],
     ends: &mut [usize],
     entries: &mut [usize],
+    out: &mut [u8],
     c: u8,
 ) -> Answered {
     if r.number != 0 {
         return r;
+    }
+    if c == b'.' {
+        return finish_call(r.builder, value, text, ends, entries, out);
     }
     let d = call(r.builder, value, text, ends, entries, c);
     let a = d.answer;
     let b = d.builder;
     Answered {
         number: number(a),
+        written: r.written,
         builder: b,
+    }
+}
+
+fn finish_call(
+    b: Builder,
+    value: &[u8],
+    text: &[u8],
+    ends: &[usize],
+    entries: &[usize],
+    out: &mut [u8],
+) -> Answered {
+    let d = finish(b, value, text, ends, entries, out);
+    let a = d.answer;
+    let builder = d.builder;
+    match a {
+        FinishAnswer::Written(written) => Answered {
+            number: 0,
+            written,
+            builder,
+        },
+        FinishAnswer::Refused(number) => Answered {
+            number,
+            written: 0,
+            builder,
+        },
     }
 }
 

@@ -4,3 +4,4 @@ pub mod AppendLaws
 pub mod CloseLaws
 pub mod UndoLaws
 pub mod OpenLaws
+pub mod FinishLaws

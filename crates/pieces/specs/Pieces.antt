@@ -20,12 +20,13 @@ use Rattle.run.specs.declared.Container.{Container}
 use Rattle.run.specs.declared.ParentEntry.{ParentEntry}
 use Rattle.run.specs.declared.ParentEntry.the-variants.{New, Replaced}
 use Rattle.run.specs.declared.View.{View}
-use Rattle.run.specs.Record.{Storage, Call, openIn, isOpen, innerSize}
+use Rattle.run.specs.Record.{Storage, Call, openIn, finish, isOpen, innerSize}
 use Rattle.run.specs.Table.{appendRows, first, header, numberOf}
-use Rattle.run.specs.Step.{carriedOut, countWith, dictionaryWith, endsWith, entriesClosed, entriesWith, newContainer, textWith, withCounts}
+use Rattle.run.specs.Step.{carriedOut, countWith, dictionaryOf, dictionaryWith, endsWith, entriesClosed, entriesWith, finished, newContainer, textWith, withCounts}
 use Rattle.table.specs.declared.Field.{Field}
 use Rattle.pieces.specs.declared.Moved.{Moved}
 use Rattle.pieces.specs.declared.Opened.{Opened}
+use Rattle.pieces.specs.declared.Ended.{Ended}
 use Rattle.pieces.specs.declared.enter.Entered.{Entered}
 use Rattle.pieces.specs.declared.enter.Noted.{Noted}
 
@@ -41,6 +42,13 @@ pub record Opens (v : View) (l : Storage) (nm : Option Name) (object : Bool) (r 
   pub counts : r .counts ≡ cond (eqb (numberOf v l (openIn nm object)) 0) (carriedOut v l (openIn nm object) .counts) (v .counts)
   pub container : r .container ≡ cond (eqb (numberOf v l (openIn nm object)) 0) (newContainer v l nm object) (v .inner)
   pub storage : after ≡ cond (eqb (numberOf v l (openIn nm object)) 0) (carriedOut v l (openIn nm object) .storage) l
+
+-- of a finish also the bytes written, and the output
+pub record Ends (v : View) (l : Storage) (out : List ℕ) (r : Ended) (after : List ℕ) : Type 0 where
+  pub number : r .number ≡ numberOf v l (finish out)
+  pub counts : r .counts ≡ cond (eqb (numberOf v l (finish out)) 0) (finished (v .counts)) (v .counts)
+  pub written : r .written ≡ cond (eqb (numberOf v l (finish out)) 0) (length (dictionaryOf v l)) 0
+  pub output : after ≡ cond (eqb (numberOf v l (finish out)) 0) (write 0 (dictionaryOf v l) out) out
 
 -- ---- a name added where it is new
 abbrev pub adds : Bool → MetadataBuilder → List ℕ → List ℕ → Name → Bool

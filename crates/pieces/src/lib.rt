@@ -2,6 +2,7 @@
 // rows of its call first and then acts; it gives back the number and the counts, and of an open the container. The calls over
 // the whole record are in the crate `builder`.
 mod append;
+mod dictionary;
 mod enter;
 mod header;
 mod open;
@@ -10,6 +11,7 @@ mod undo;
 pub use append::append_bytes_over;
 pub use append::append_uuid_over;
 pub use append::append_value_over;
+pub use dictionary::finish_over;
 pub use enter::register;
 pub use header::close_over;
 pub use open::open_over;
@@ -28,4 +30,11 @@ pub struct Opened {
     pub counts: Counts,
     pub container: Container,
     pub number: u8,
+}
+
+// Those of a finish, and the bytes written.
+pub struct Ended {
+    pub counts: Counts,
+    pub number: u8,
+    pub written: usize,
 }

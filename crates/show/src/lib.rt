@@ -1,4 +1,5 @@
-// Text and bytes on standard output, for the programs here. What is written no contract can say: each result says how much.
+// Text and bytes on standard output, for the programs here. What is written no contract can say: the result is how many bytes
+// of the argument were shown, and of `number` the number.
 use libc::STDOUT_FILENO;
 ghost use mathlib.Core.Path.{_≡_};
 ghost use Prim.Native.Nat.{min};

@@ -2,6 +2,7 @@
 use mathlib.Core.Path.{_≡_, refl, sym}
 use mathlib.Core.Bool.{Bool, true, false, cond, not, _&&_, _||_, or-false}
 use Prim.Native.Nat.{ℕ, _≤_}
+use mathlib.Core.List.{List}
 use lib.Dec.{eqb, ltb}
 use lib.ListN.{length, take}
 use borrow.Author.Tests.{eqb-true}
@@ -12,7 +13,7 @@ use Rattle.container.specs.declared.Search.{Search}
 use Rattle.container.specs.Entries.{Searches, roomFor}
 use Rattle.run.specs.declared.ParentEntry.the-variants.{New, Replaced}
 use Rattle.run.specs.declared.View.{View}
-use Rattle.run.specs.Record.{Storage, register, close, rollBack, uniqueness, isOpen, inObject, innerSize, parentSize}
+use Rattle.run.specs.Record.{Storage, register, close, rollBack, uniqueness, finish, isOpen, inObject, innerSize, parentSize}
 use Rattle.run.specs.Damage.{unchained, fallenEnds, misplacedInner, misplacedParent, damagedParent}
 use Rattle.run.specs.Table.{first, rows, numberOf, held}
 use Rattle.table.specs.declared.numbers.Parent.{Parent}
@@ -60,6 +61,15 @@ pub close-rows : (v : View) (l : Storage) (s : Search) → brokenOf v l ≡ fals
     ≡ first (take 3 (rows v l close))
 unfolding first misplacedInner
 close-rows v l s e q = rw (ends-read v l e, damaged-none v l (fallenEnds v l || misplacedInner v l) e, q .misplacedAny, range-within _ _ _ (entries-within v l e))
+
+-- ---- the rows of a finish
+
+-- what the code answers after `broken`
+pub finish-rows : (v : View) (l : Storage) (out : List ℕ) → brokenOf v l ≡ false
+    → cond (not (intact (v .counts .dictionary) (l .text) (l .ends))) 1 (cond (v .counts .finished) 2 (cond (isOpen v) 4 (cond (eqb (v .counts .value) 0) 15 0)))
+    ≡ first (take 4 (rows v l (finish out)))
+unfolding first
+finish-rows v l out e = rw (ends-read v l e, damaged-none v l (fallenEnds v l) e)
 
 -- ---- the rows of a name to register, and its answer
 

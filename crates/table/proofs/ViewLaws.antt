@@ -54,6 +54,11 @@ pub broken-close : (v : View) (l : Storage) → brokenOf v l ≡ true → first 
 unfolding first
 broken-close v l e = rw (damaged-broken v l _ e)
 
+-- and a finish by its first four
+pub broken-finish : (v : View) (l : Storage) (out : List ℕ) → brokenOf v l ≡ true → first (take 4 (rows v l (finish out))) ≡ 1
+unfolding first
+broken-finish v l out e = rw (damaged-broken v l _ e)
+
 -- ---- where it does not
 
 -- neither of its two tests holds

@@ -6,6 +6,7 @@ mod view;
 
 pub use numbers::append_number;
 pub use numbers::close_number;
+pub use numbers::finish_number;
 pub use numbers::open_number;
 pub use numbers::register_number;
 pub use numbers::rollback_number;

@@ -26,7 +26,7 @@ ghost use mathlib.Core.List.{List};
 ghost use Prim.Native.Nat.{ℕ, _≤_};
 ghost use lib.ListN.{length, take};
 ghost use Rattle.container.specs.Entries.{roomFor};
-ghost use Rattle.run.specs.Record.{close, openIn, register, rollBack, uniqueness};
+ghost use Rattle.run.specs.Record.{close, finish, openIn, register, rollBack, uniqueness};
 ghost use Rattle.run.specs.Table.{appendRows, first, numberOf, rows};
 ghost use Rattle.table.specs.Decide.{Decides, ParentOf, appendBy, frontBy, fullBy, openBy, roomBy, RegistersBy, Undoes, decidedOf, nameOf, stored};
 
@@ -183,6 +183,19 @@ pub fn close_number(v: View, value: &[u8], text: &[u8], ends: &[usize], entries:
     let open = is_open(v);
     let misread = !intact(m, text, ends) | (open & s.misplaced);
     row(misread, 1, row(c.finished, 2, row(!open, 3, 0)))
+}
+
+// Rows 1, 2, 4 and 15 of a finish; row 16 is the dictionary's own.
+pub fn finish_number(v: View, value: &[u8], text: &[u8], ends: &[usize], entries: &[usize]) -> u8
+    ensures { λ r. ⌜ ((out : List ℕ) → r ≡ first (take 4 (rows v (stored (now (value .entry)) (now (text .entry)) (now (ends .entry)) (now (entries .entry))) (finish out)))) ⌝ }
+{
+    if broken(v, value, text, ends, entries) {
+        return 1;
+    }
+    let c = v.counts;
+    let m = c.dictionary;
+    let late = row(is_open(v), 4, row(c.value == 0, 15, 0));
+    row(!intact(m, text, ends), 1, row(c.finished, 2, late))
 }
 
 pub fn rollback_number(

@@ -6,21 +6,6 @@ use Rattle.run.specs.Record.{register}
 use Rattle.builder.proofs.calls.add_field_name.Statement.{statement}
 use Rattle.builder.proofs.calls.add_field_name.Tie as tie
 
-view-of-requires : tie.Need-view-of-requires
-view-of-requires c κs = search needs
-
-register-requires : tie.Need-register-requires
-register-requires c κs = search needs
-
-called-requires : tie.Need-called-requires
-called-requires c κs = search needs
-
-same-length : tie.Need-same-length
-same-length c = search needs
-
-same-length-2 : tie.Need-same-length-2
-same-length-2 c = search needs
-
 returns : tie.Need-returns
 returns c =
     let r = c .before .before .before .before .before in
@@ -31,4 +16,4 @@ returns c =
 pub add-field-name-spec : {M : Type 1} → statement M
 add-field-name-spec =
     tie.close
-    (tie.spec view-of-requires register-requires called-requires same-length same-length-2 returns)
+    (tie.spec (λ c κs. search needs) (λ c κs. search needs) (λ c κs. search needs) (λ c. search needs) (λ c. search needs) returns)

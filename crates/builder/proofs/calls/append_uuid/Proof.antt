@@ -6,27 +6,6 @@ use Rattle.run.specs.Record.{append, uuid}
 use Rattle.builder.proofs.calls.append_uuid.Statement.{statement}
 use Rattle.builder.proofs.calls.append_uuid.Tie as tie
 
-view-of-requires : tie.Need-view-of-requires
-view-of-requires c κs = search needs
-
-append-uuid-over-requires : tie.Need-append-uuid-over-requires
-append-uuid-over-requires c κs = search needs
-
-called-requires : tie.Need-called-requires
-called-requires c κs = search needs
-
-same-length : tie.Need-same-length
-same-length c = search needs
-
-same-length-2 : tie.Need-same-length-2
-same-length-2 c = search needs
-
-same-length-3 : tie.Need-same-length-3
-same-length-3 c = search needs
-
-same-length-4 : tie.Need-same-length-4
-same-length-4 c = search needs
-
 returns : tie.Need-returns
 returns c =
     let r = c .before .before .before .before .before .before .before .before .before in
@@ -38,11 +17,11 @@ pub append-uuid-spec : {M : Type 1} → statement M
 append-uuid-spec =
     tie.close
     (tie.spec
-    view-of-requires
-    append-uuid-over-requires
-    called-requires
-    same-length
-    same-length-2
-    same-length-3
-    same-length-4
+    (λ c κs. search needs)
+    (λ c κs. search needs)
+    (λ c κs. search needs)
+    (λ c. search needs)
+    (λ c. search needs)
+    (λ c. search needs)
+    (λ c. search needs)
     returns)

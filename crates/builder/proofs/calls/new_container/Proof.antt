@@ -5,24 +5,6 @@ use Rattle.builder.proofs.CallLaws.{does-refused, does-opened, opened-d
 use Rattle.builder.proofs.calls.new_container.Statement.{statement}
 use Rattle.builder.proofs.calls.new_container.Tie as tie
 
-view-of-requires : tie.Need-view-of-requires
-view-of-requires c κs = search needs
-
-open-over-requires : tie.Need-open-over-requires
-open-over-requires c κs = search needs
-
-answer-of-requires : tie.Need-answer-of-requires
-answer-of-requires c κs = search needs
-
-same-length : tie.Need-same-length
-same-length c = search needs
-
-same-length-2 : tie.Need-same-length-2
-same-length-2 c = search needs
-
-same-length-3 : tie.Need-same-length-3
-same-length-3 c = search needs
-
 returns : tie.Need-returns
 returns c =
     let r = c .before .before .before .before .before .before .before .before in
@@ -44,18 +26,6 @@ array-set-from-cs c =
     let a = v .before .before .before .before .before .before .args in
     opened-deep (a .b) (stored (a .value .now) (a .text .now) (a .ends .now) (a .entries .now)) (nameOf (a .named) (a .name .now)) (a .object) (v .view-of .ensures) (r .open-over .ensures) (c .before .before .before .if1 .left)
 
-answer-of-requires-2 : tie.Need-answer-of-requires-2
-answer-of-requires-2 c κs = search needs
-
-same-length-4 : tie.Need-same-length-4
-same-length-4 c = search needs
-
-same-length-5 : tie.Need-same-length-5
-same-length-5 c = search needs
-
-same-length-6 : tie.Need-same-length-6
-same-length-6 c = search needs
-
 returns-2 : tie.Need-returns-2
 returns-2 c =
     let r = c .before .before .before .before .before .before .before .before .before .before .before in
@@ -67,17 +37,17 @@ pub new-container-spec : {M : Type 1} → statement M
 new-container-spec =
     tie.close
     (tie.spec
-    view-of-requires
-    open-over-requires
-    answer-of-requires
-    same-length
-    same-length-2
-    same-length-3
+    (λ c κs. search needs)
+    (λ c κs. search needs)
+    (λ c κs. search needs)
+    (λ c. search needs)
+    (λ c. search needs)
+    (λ c. search needs)
     returns
     mul-cs
     array-set-from-cs
-    answer-of-requires-2
-    same-length-4
-    same-length-5
-    same-length-6
+    (λ c κs. search needs)
+    (λ c. search needs)
+    (λ c. search needs)
+    (λ c. search needs)
     returns-2)

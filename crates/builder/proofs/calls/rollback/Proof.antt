@@ -6,18 +6,6 @@ use Rattle.run.specs.Record.{rollBack}
 use Rattle.builder.proofs.calls.rollback.Statement.{statement}
 use Rattle.builder.proofs.calls.rollback.Tie as tie
 
-view-of-requires : tie.Need-view-of-requires
-view-of-requires c κs = search needs
-
-rollback-over-requires : tie.Need-rollback-over-requires
-rollback-over-requires c κs = search needs
-
-called-requires : tie.Need-called-requires
-called-requires c κs = search needs
-
-same-length : tie.Need-same-length
-same-length c = search needs
-
 returns : tie.Need-returns
 returns c =
     let r = c .before .before .before in
@@ -28,4 +16,4 @@ returns c =
 pub rollback-spec : {M : Type 1} → statement M
 rollback-spec =
     tie.close
-    (tie.spec view-of-requires rollback-over-requires called-requires same-length returns)
+    (tie.spec (λ c κs. search needs) (λ c κs. search needs) (λ c κs. search needs) (λ c. search needs) returns)

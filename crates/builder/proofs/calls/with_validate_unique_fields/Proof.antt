@@ -7,15 +7,6 @@ use Rattle.builder.proofs.CallLaws.{unique-refused, unique-marked, uniq
 use Rattle.builder.proofs.calls.with_validate_unique_fields.Statement.{statement}
 use Rattle.builder.proofs.calls.with_validate_unique_fields.Tie as tie
 
-view-of-requires : tie.Need-view-of-requires
-view-of-requires c κs = search needs
-
-unique-number-requires : tie.Need-unique-number-requires
-unique-number-requires c κs = search needs
-
-answer-of-requires : tie.Need-answer-of-requires
-answer-of-requires c κs = search needs
-
 returns : tie.Need-returns
 returns c =
     let n = c .before .before in
@@ -44,9 +35,6 @@ array-set-from-cs c =
     let a = v .before .before .before .before .before .args in
     omega (arith, unique-open (a .b) (stored (a .value .now) (a .text .now) (a .ends .now) (a .entries .now)) (a .unique) (v .view-of .ensures) (n .unique-number .ensures) (c .before .before .before .before .if1 .left))
 
-answer-of-requires-2 : tie.Need-answer-of-requires-2
-answer-of-requires-2 c κs = search needs
-
 returns-2 : tie.Need-returns-2
 unfolding marked
 returns-2 c =
@@ -59,12 +47,12 @@ pub with-validate-unique-fields-spec : {M : Type 1} → statement M
 with-validate-unique-fields-spec =
     tie.close
     (tie.spec
-    view-of-requires
-    unique-number-requires
-    answer-of-requires
+    (λ c κs. search needs)
+    (λ c κs. search needs)
+    (λ c κs. search needs)
     returns
     sub-at
     mul-cs
     array-set-from-cs
-    answer-of-requires-2
+    (λ c κs. search needs)
     returns-2)

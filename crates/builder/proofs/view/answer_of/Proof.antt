@@ -2,11 +2,9 @@ use borrow.Author.Tests.{eq-eqb, ne-eqb}
 use Rattle.builder.proofs.view.answer_of.Statement.{statement}
 use Rattle.builder.proofs.view.answer_of.Tie as tie
 
--- src/view.rt:124:9
 returns : tie.Need-returns
 returns c = rw (eq-eqb _ 0 (c .if1 .taken))
 
--- src/view.rt:120:1
 returns-2 : tie.Need-returns-2
 returns-2 c = rw (ne-eqb _ 0 (c .if1 .left))
 

@@ -6,31 +6,12 @@ use borrow.Author.Needs.{needs}
 use Rattle.builder.proofs.view.parent_of.Statement.{statement}
 use Rattle.builder.proofs.view.parent_of.Tie as tie
 
--- src/view.rt:83:9
-no-container-requires : tie.Need-no-container-requires
-no-container-requires c κs = search needs
-
--- src/view.rt:83:9
 returns : tie.Need-returns
 returns c = let a = c .before .before .args .t1 in c .no-container .ensures ∙ parent-none (a .containers) (a .counts .depth) (omega arith)
 
--- src/view.rt:86:9
-no-container-requires-2 : tie.Need-no-container-requires-2
-no-container-requires-2 c κs = search needs
-
--- src/view.rt:86:9
 returns-2 : tie.Need-returns-2
 returns-2 c = let a = c .before .before .before .args .t1 in c .no-container2 .ensures ∙ parent-far (a .containers) (a .counts .depth) (rw length-map at (c .before .before .before .good .0 .1 .1 .0 .1 .0 .1)) (omega arith)
 
--- src/view.rt:88:5
-mul-result : tie.Need-mul-result
-mul-result c = search needs
-
--- src/view.rt:88:5
-element-copy-out-result : tie.Need-element-copy-out-result
-element-copy-out-result c = search needs
-
--- src/view.rt:78:1
 returns-3 : tie.Need-returns-3
 returns-3 c = let a = c .before .before .before .args .t1 in parent-at (a .containers) (a .counts .depth) (omega arith)
 
@@ -38,10 +19,10 @@ pub parent-of-spec : {M : Type 1} → statement M
 parent-of-spec =
     tie.close
     (tie.spec
-    no-container-requires
+    (λ c κs. search needs)
     returns
-    no-container-requires-2
+    (λ c κs. search needs)
     returns-2
-    mul-result
-    element-copy-out-result
+    (λ c. search needs)
+    (λ c. search needs)
     returns-3)

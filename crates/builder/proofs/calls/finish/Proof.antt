@@ -1,0 +1,17 @@
+use borrow.Author.Needs.{needs}
+use Rattle.table.specs.Decide.{stored}
+use Rattle.builder.proofs.CallLaws.{does-finished}
+use Rattle.builder.proofs.calls.finish.Statement.{statement}
+use Rattle.builder.proofs.calls.finish.Tie as tie
+
+returns : tie.Need-returns
+returns c =
+    let r = c .before .before .before .before .before in
+    let v = r .before .before in
+    let a = v .before .before .before .before .before .before .args in
+    does-finished (a .b) (stored (a .value .now) (a .text .now) (a .ends .now) (a .entries .now)) (a .out .now) (v .view-of .ensures) (r .finish-over .ensures) (rw (c .finish-answer .ensures))
+
+pub finish-spec : {M : Type 1} → statement M
+finish-spec =
+    tie.close
+    (tie.spec (λ c κs. search needs) (λ c κs. search needs) (λ c κs. search needs) (λ c. search needs) returns)

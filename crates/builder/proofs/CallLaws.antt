@@ -16,6 +16,7 @@ use Rattle.run.specs.declared.View.{View}
 use Rattle.run.specs.Record.{Storage, Call, openIn, uniqueness, finish, viewOf, innermost, inObject, rising, chained}
 use Rattle.run.specs.Damage.{overUsed, grown, unchained}
 use Rattle.run.proofs.Demand1.{number-none}
+use Rattle.table.proofs.ViewLaws.{neither}
 use Rattle.run.specs.Table.{numberOf}
 use Rattle.run.specs.Step.{step, after, carriedOut, containersAfter, newContainer, marked}
 use Rattle.builder.specs.declared.Answer.{Answer}
@@ -131,14 +132,10 @@ module _ (b : Builder) (l : Storage) (u : Bool) {v : View} {n : ℕ} (p : v ≡ 
       let k = number-none (viewOf b) l (uniqueness u) .0 (sym w ∙ h) in
       let d = b .counts .depth in
       let i = and-eq-true-iff (ltb 0 d) (innermost (b .containers) d .object) .0 (not-false (inObject (viewOf b)) (k .1 .1 .0)) in
-      let g = or-parts (overUsed (viewOf b) l) (unchained (viewOf b) || false) (k .0) in
-      let f = or-parts (unchained (viewOf b)) false (g .1) in
+      let g = neither (overUsed (viewOf b) l) (unchained (viewOf b) || false) (k .0) in
+      let f = neither (unchained (viewOf b)) false (g .1) in
       let c = and-eq-true-iff (chained (b .containers) d) (grown (viewOf b)) .0 (not-false (chained (b .containers) d && grown (viewOf b)) (f .0)) in
       (ltb-true 0 d (i .0), leb-true d 64 (and-eq-true-iff (leb d 64) (rising (b .containers) (d - 1)) .0 (c .0) .0))
-    where
-      or-parts : (x y : Bool) → (x || y) ≡ false → (x ≡ false) × (y ≡ false)
-      or-parts true y e = absurd (true≢false e)
-      or-parts false y e = (refl, e)
 
 -- a finish
 pub does-finished : (b : Builder) (l : Storage) (out : List ℕ) {v : View} {r : Ended} {left : List ℕ} {x : FinishCalled} → v ≡ viewOf b → Ends v l out r left

@@ -20,7 +20,8 @@ use Rattle.run.specs.Table.{first, header, numberOf, rows, tooLong}
 use Rattle.run.specs.Step.{closed, entriesClosed, withCounts}
 use Rattle.table.specs.Decide.{stored}
 use Rattle.pieces.specs.Pieces.{Fronts, Leaves, frameOf}
-use Rattle.pieces.proofs.UndoLaws.{leaves-refused, past}
+use Rattle.table.proofs.ViewLaws.{both, neither, past}
+use Rattle.pieces.proofs.EnterLaws.{refuses}
 
 -- ---- the header put before the data
 
@@ -45,7 +46,7 @@ fronts-list {l = l} {r = r} e q = record { number = rw e (q .number); used = rw 
 -- one of them holds: it is the number
 pub closes-early : {v : View} {l : Storage} {n : ℕ} → n ≡ first (take 3 (rows v l close)) → (n ≡ 0 → ⊥) → Leaves v l close (record { counts = v .counts; number = n }) l
 unfolding first numberOf
-closes-early {v} {l} {n} e q = leaves-refused (go (damaged v l (misread v l close)) (v .counts .finished) (not (isOpen v)) _ e) q
+closes-early {v} {l} {n} e q = refuses (go (damaged v l (misread v l close)) (v .counts .finished) (not (isOpen v)) _ e) q
   where
     go : (a b c : Bool) (z : ℕ) → n ≡ cond a 1 (cond b 2 (cond c 3 0)) → n ≡ cond a 1 (cond b 2 (cond c 3 z))
     go true b c z h = h
@@ -58,14 +59,6 @@ pub record Closable (v : View) (l : Storage) : Type 0 where
   pub depth : 1 ≤ v .counts .depth
   pub inside : outside (frameOf v) (length (l .value)) (length (l .entries)) ≡ false
   pub number : numberOf v l close ≡ cond (tooLong v l (length (header v l))) 14 0
-
-neither : (t u : Bool) → (t || u) ≡ false → (t ≡ false) × (u ≡ false)
-neither true u e = absurd (true≢false e)
-neither false u e = (refl, e)
-
-both : (t u : Bool) → (t && u) ≡ true → (t ≡ true) × (u ≡ true)
-both true u e = (refl, e)
-both false u e = absurd (true≢false (sym e))
 
 -- what is not damaged lies within its marks and its lent slices
 undamaged-inside : (v : View) (l : Storage) (x : Bool) → damaged v l x ≡ false → outside (frameOf v) (length (l .value)) (length (l .entries)) ≡ false
@@ -115,7 +108,7 @@ leaves-closed {v} {l} {used = used} k f e =
 pub leaves-none : {v : View} {l : Storage} {r : Closed} {value entries : List ℕ} → Closable v l → Fronts v l r value entries → r ≡ NoRoom
     → Leaves v l close (record { counts = v .counts; number = 14 }) (stored value (l .text) (l .ends) entries)
 leaves-none {v} {l} k f e =
-    rw (f .bytes, f .entriesLeft, e) (leaves-refused (sym (ap closedNumber e) ∙ fronts-number k f) (λ h. omega arith))
+    rw (f .bytes, f .entriesLeft, e) (refuses (sym (ap closedNumber e) ∙ fronts-number k f) (λ h. omega arith))
 
 -- no damage is left to find
 pub undamaged : {v : View} {l : Storage} {r : Closed} {value entries : List ℕ} → Closable v l → Fronts v l r value entries → r ≡ Damaged → ⊥

@@ -19,9 +19,8 @@ use Rattle.run.specs.Record.{Storage, finish, isOpen, namesHeld}
 use Rattle.run.specs.Damage.{damaged, fallenEnds, overUsed, unchained}
 use Rattle.run.specs.Table.{first, numberOf, rows}
 use Rattle.run.specs.Step.{dictionaryOf, finished}
-use Rattle.table.proofs.ViewLaws.{ends-read}
+use Rattle.table.proofs.ViewLaws.{ends-read, past}
 use Rattle.pieces.specs.Pieces.{Ends}
-use Rattle.pieces.proofs.UndoLaws.{past}
 
 -- a refused finish leaves the counts and its output
 ends-refused : {v : View} {l : Storage} {out : List ℕ} {n : ℕ} → n ≡ numberOf v l (finish out) → (n ≡ 0 → ⊥) → Ends v l out (record { counts = v .counts; number = n; written = 0 }) out

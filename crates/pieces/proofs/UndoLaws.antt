@@ -1,4 +1,4 @@
--- A call that is refused, and a roll back that is carried out.
+-- A roll back that is carried out.
 use mathlib.Core.Path.{_≡_, refl, sym, _∙_}
 use mathlib.Core.Bool.{Bool, true, false, cond, not, _&&_}
 use mathlib.Core.List.{List}
@@ -17,18 +17,8 @@ use Rattle.run.specs.Table.{first, numberOf}
 use Rattle.run.specs.Step.{countBack, entriesBack, rolledBack, withCounts}
 use Rattle.table.specs.declared.Undone.{Undone}
 use Rattle.table.specs.Decide.{Undoes, placeBack, stored}
+use Rattle.table.proofs.ViewLaws.{past}
 use Rattle.pieces.specs.Pieces.{Leaves, entriesUndone}
-
--- a refused call leaves the counts and the storage
-pub leaves-refused : {v : View} {l : Storage} {c : Call} {n : ℕ} → n ≡ numberOf v l c → (n ≡ 0 → ⊥) → Leaves v l c (record { counts = v .counts; number = n }) l
-leaves-refused {n = n} e q =
-    let z = rw e at (ne-eqb n 0 q) in
-    record { number = e; counts = rw z; storage = rw z }
-
--- a first row that does not hold
-pub past : (t : Bool) (n r : ℕ) → cond t (suc n) r ≡ 0 → (t ≡ false) × (r ≡ 0)
-past true n r e = absurd (omega arith)
-past false n r e = (refl, e)
 
 -- a roll back that is carried out has a container
 pub rollback-open : (v : View) (l : Storage) {n : ℕ} → n ≡ numberOf v l rollBack → n ≡ 0 → 1 ≤ v .counts .depth

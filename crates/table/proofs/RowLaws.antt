@@ -18,6 +18,7 @@ use Rattle.table.specs.declared.Field.{Field}
 use Rattle.table.specs.declared.Decided.{Decided}
 use Rattle.table.specs.declared.lookup.Named.{Named}
 use Rattle.table.specs.Decide.{nameOf, noField, Decides, brokenOf, misnamedBy, decidedOf, Sees, frontBy, fullBy, roomBy, appendBy, openBy}
+use Rattle.table.proofs.ViewLaws.{past}
 pub use Rattle.table.proofs.ViewLaws.{broken-none, damaged-broken}
 
 -- ---- the rows of an append and of an open
@@ -73,10 +74,6 @@ open-rows v l named name f object e s =
 
 -- ---- a number 0: no test holds
 
-cond-zero : (t : Bool) (n r : ℕ) → cond t (suc n) r ≡ 0 → (t ≡ false) × (r ≡ 0)
-cond-zero true n r e = absurd (omega arith)
-cond-zero false n r e = (refl, e)
-
 name-zero : (v : View) (l : Storage) (nm : Option Name) (f : Named) → Sees v l nm f → eqb (f .number) 1 ≡ false → eqb (f .number) 9 ≡ false → eqb (f .number) 12 ≡ false → f .number ≡ 0
 name-zero v l nm f s =
     known-front v l nm f s (λ n live. eqb n 1 ≡ false → eqb n 9 ≡ false → eqb n 12 ≡ false → n ≡ 0)
@@ -84,21 +81,21 @@ name-zero v l nm f s =
 
 front-zero : (v : View) (number : ℕ) (named : Bool) (rest : ℕ) → frontBy v number named rest ≡ 0 → (eqb number 1 ≡ false) × (rest ≡ 0)
 front-zero v number named rest e =
-    let a = cond-zero (eqb number 1) 0 (cond (v .counts .finished) 2 (cond (misnamedBy named v) 5 (cond (secondTop v) 6 rest))) e in
-    let b = cond-zero (v .counts .finished) 1 (cond (misnamedBy named v) 5 (cond (secondTop v) 6 rest)) (a .1) in
-    let c = cond-zero (misnamedBy named v) 4 (cond (secondTop v) 6 rest) (b .1) in
-    (a .0, cond-zero (secondTop v) 5 rest (c .1) .1)
+    let a = past (eqb number 1) 0 (cond (v .counts .finished) 2 (cond (misnamedBy named v) 5 (cond (secondTop v) 6 rest))) e in
+    let b = past (v .counts .finished) 1 (cond (misnamedBy named v) 5 (cond (secondTop v) 6 rest)) (a .1) in
+    let c = past (misnamedBy named v) 4 (cond (secondTop v) 6 rest) (b .1) in
+    (a .0, past (secondTop v) 5 rest (c .1) .1)
 
 append-zero : {v : View} {l : Storage} {nm : Option Name} {f : Named} (named beyond bad fit : Bool) (lent : ℕ) → Sees v l nm f → appendBy v f named beyond bad fit lent ≡ 0 → f .number ≡ 0
 append-zero {v} {l} {nm} {f} named beyond bad fit lent s e =
     let room = roomBy (f .number) (fullBy v (f .field .live) lent) fit in
     let late = cond (uniqueNow v && f .field .live) 10 room in
     let a = front-zero v (f .number) named (cond beyond 7 (cond bad 8 (cond (eqb (f .number) 9) 9 late))) e in
-    let b = cond-zero beyond 6 (cond bad 8 (cond (eqb (f .number) 9) 9 late)) (a .1) in
-    let c = cond-zero bad 7 (cond (eqb (f .number) 9) 9 late) (b .1) in
-    let d = cond-zero (eqb (f .number) 9) 8 late (c .1) in
-    let g = cond-zero (uniqueNow v && f .field .live) 9 room (d .1) in
-    name-zero v l nm f s (a .0) (d .0) (cond-zero (eqb (f .number) 12) 11 (cond (fullBy v (f .field .live) lent) 13 (cond (not fit) 14 0)) (g .1) .0)
+    let b = past beyond 6 (cond bad 8 (cond (eqb (f .number) 9) 9 late)) (a .1) in
+    let c = past bad 7 (cond (eqb (f .number) 9) 9 late) (b .1) in
+    let d = past (eqb (f .number) 9) 8 late (c .1) in
+    let g = past (uniqueNow v && f .field .live) 9 room (d .1) in
+    name-zero v l nm f s (a .0) (d .0) (past (eqb (f .number) 12) 11 (cond (fullBy v (f .field .live) lent) 13 (cond (not fit) 14 0)) (g .1) .0)
 
 open-zero : {v : View} {l : Storage} {nm : Option Name} {f : Named} (named : Bool) (lent : ℕ) → Sees v l nm f → openBy v f named lent ≡ 0 → f .number ≡ 0
 open-zero {v} {l} {nm} {f} named lent s e =
@@ -106,10 +103,10 @@ open-zero {v} {l} {nm} {f} named lent s e =
     let deep = cond (leb 64 (v .counts .depth)) 11 room in
     let late = cond (uniqueNow v && f .field .live) 10 deep in
     let a = front-zero v (f .number) named (cond (eqb (f .number) 9) 9 late) e in
-    let d = cond-zero (eqb (f .number) 9) 8 late (a .1) in
-    let g = cond-zero (uniqueNow v && f .field .live) 9 deep (d .1) in
-    let h = cond-zero (leb 64 (v .counts .depth)) 10 room (g .1) in
-    name-zero v l nm f s (a .0) (d .0) (cond-zero (eqb (f .number) 12) 11 (cond (fullBy v (f .field .live) lent) 13 0) (h .1) .0)
+    let d = past (eqb (f .number) 9) 8 late (a .1) in
+    let g = past (uniqueNow v && f .field .live) 9 deep (d .1) in
+    let h = past (leb 64 (v .counts .depth)) 10 room (g .1) in
+    name-zero v l nm f s (a .0) (d .0) (past (eqb (f .number) 12) 11 (cond (fullBy v (f .field .live) lent) 13 0) (h .1) .0)
 
 -- the answer: the field where the number is 0
 pub decides : {n m : ℕ} {v : View} {l : Storage} {nm : Option Name} {f : Named} {r : Decided} → Sees v l nm f → (n ≡ 0 → f .number ≡ 0) → m ≡ n → r ≡ decidedOf n (f .field) → Decides m v l nm r

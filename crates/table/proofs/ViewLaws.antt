@@ -1,9 +1,9 @@
 -- What number 1's part that every call asks (`brokenOf`) gives where it holds and where it does not, and the ranges of entries
 -- that there is room for.
 use mathlib.Core.Path.{_≡_, refl, sym}
-use mathlib.Core.Bool.{Bool, true, false, not, _&&_, _||_, true≢false}
+use mathlib.Core.Bool.{Bool, true, false, cond, not, _&&_, _||_, true≢false}
 use mathlib.Core.List.{List}
-use Prim.Native.Nat.{ℕ, _+_, _-_, _≤_, min}
+use Prim.Native.Nat.{ℕ, suc, _+_, _-_, _≤_, min}
 use native.Mathlib.Omega.{arith}
 use lib.Dec.{eqb, leb, ltb}
 use lib.ListN.{length, take}
@@ -18,7 +18,8 @@ use Rattle.run.specs.Damage.{overUsed, grown, unchained, fallenEnds, damaged}
 use Rattle.run.specs.Table.{first, rows, numberOf}
 use Rattle.table.specs.Decide.{brokenOf}
 
-neither : (t u : Bool) → (t || u) ≡ false → (t ≡ false) × (u ≡ false)
+-- neither test of an `||` that does not hold does
+pub neither : (t u : Bool) → (t || u) ≡ false → (t ≡ false) × (u ≡ false)
 neither true u e = absurd (true≢false e)
 neither false u e = (refl, e)
 
@@ -26,6 +27,11 @@ neither false u e = (refl, e)
 pub both : (t u : Bool) → (t && u) ≡ true → (t ≡ true) × (u ≡ true)
 both true u e = (refl, e)
 both false u e = absurd (true≢false (sym e))
+
+-- a number 0: the first row does not hold, and the rest is 0
+pub past : (t : Bool) (n r : ℕ) → cond t (suc n) r ≡ 0 → (t ≡ false) × (r ≡ 0)
+past true n r e = absurd (omega arith)
+past false n r e = (refl, e)
 
 -- ---- where it holds
 

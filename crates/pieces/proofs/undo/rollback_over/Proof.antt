@@ -1,10 +1,11 @@
 use borrow.Author.Needs.{needs}
-use Rattle.pieces.proofs.UndoLaws.{leaves-refused, leaves-undone, rollback-open}
+use Rattle.pieces.proofs.EnterLaws.{refuses}
+use Rattle.pieces.proofs.UndoLaws.{leaves-undone, rollback-open}
 use Rattle.pieces.proofs.undo.rollback_over.Statement.{statement}
 use Rattle.pieces.proofs.undo.rollback_over.Tie as tie
 
 returns : tie.Need-returns
-returns c = leaves-refused (c .before .before .before .rollback-number .ensures .number) (c .if1 .taken)
+returns c = refuses (c .before .before .before .rollback-number .ensures .number) (c .if1 .taken)
 
 sub-t18 : tie.Need-sub-t18
 sub-t18 c = let i = c .before .before .before .before .before .before .before .before .before in rollback-open _ _ (i .before .before .before .rollback-number .ensures .number) (i .if1 .left)

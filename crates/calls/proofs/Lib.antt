@@ -1,0 +1,4 @@
+-- The walk of a thin call.
+pub mod Lent
+pub mod ThinLaws
+pub mod BridgeLaws

@@ -1,5 +1,5 @@
 #!/usr/bin/env python3
-"""Writes the thin calls of crates/calls from the calls by value, and the bridges back to calls by value: src/thin.rt,
+"""Writes the thin calls of crates/calls from the calls by value, and the functions that lend each a local: src/thin.rt,
 src/bridge.rt and the proofs, which cite the laws of proofs/ThinLaws.antt and proofs/BridgeLaws.antt, from the parameter lists
 and contracts in crates/builder/src/calls.rt.
 
@@ -9,8 +9,6 @@ import re
 import shutil
 import sys
 
-# the calls that a program runs through a bridge
-BRIDGED = ['append_value', 'close', 'finish', 'new_list', 'new_object', 'rollback']
 ENUMS = {'Variant': 'value', 'VariantBytes': 'value'}
 
 
@@ -26,19 +24,27 @@ def answer_type(result):
 
 
 def thin_contract(contract):
-    contract = re.sub(r'^(Does|Finishes) r ', r'\1Thin r (now (b .exit)) ', contract)
-    return contract.replace('(state b ', '(state (now (b .entry)) ')
+    parts = balanced(contract)
+    state, call = step_of(parts)
+    state = state.replace('(state b ', '(state (now (b .entry)) ')
+    return ' '.join([parts[0] + 'Thin', 'r', '(now (b .exit))'] + parts[2:-1] + [state, call])
+
+
+def step_of(parts):
+    """The state and the call of a contract's step, `(step STATE CALL)`."""
+    _, state, call = balanced(parts[-1][1:-1])
+    return state, call
 
 
 def head(comment, names, uses, specs):
     return ['// Written by tools/thin.py: ' + comment] + ['use %s;' % n for n in names] + [
         'ghost use mathlib.Core.Path.{_≡_};', 'ghost use mathlib.Core.Bool.{false, true};',
-        'ghost use Rattle.run.specs.Record.{%s};' % uses, 'ghost use Rattle.run.specs.Step.{step};',
+        'ghost use Rattle.run.specs.Record.{%s};' % uses,
         'ghost use Rattle.table.specs.Decide.{nameOf, stored};'] + specs
 
 
-def function(name, record, ps, result, contract, comment, body):
-    out = ['', comment + 'pub fn %s(' % name, '    b: %s,' % record] + ['    %s: %s,' % p for p in ps]
+def function(head, record, ps, result, contract, comment, body):
+    out = ['', comment + '%s(' % head, '    b: %s,' % record] + ['    %s: %s,' % p for p in ps]
     return out + [') -> ' + result, '    ensures { λ r. ⌜ %s ⌝ }' % contract, '{'] + ['    ' + l for l in body] + ['}']
 
 
@@ -48,19 +54,18 @@ def thin_code(fns):
                ['ghost use Rattle.builder.specs.Calls.{state};', 'ghost use Rattle.calls.specs.Calls.{DoesThin, FinishesThin};'])
     for name, ps, result, contract, comment in fns:
         call = 'builder::%s(%s)' % (name, ', '.join(['c'] + [p for p, _ in ps]))
-        out += function(name, '&mut Builder', ps, answer_type(result), thin_contract(contract), comment,
+        out += function('pub fn ' + name, '&mut Builder', ps, answer_type(result), thin_contract(contract), comment,
                         ['let c = *b;', 'let r = %s;' % call, '*b = r.builder;', 'r.answer'])
     return '\n'.join(out) + '\n'
 
 
 def bridge_code(fns):
-    record = ', '.join(r for r in RECORD.split(', ') if any(re.search(r'\b%s\b' % r.split(' as ')[-1], f[3]) for f in fns))
-    out = head('calls by value that lend a local to a thin call, for a program to run these.',
-               ['crate::thin', 'builder::Called', 'builder::FinishCalled', 'run::Builder', 'value::variant::Variant'], record,
-               ['ghost use Rattle.builder.specs.Calls.{Does, Finishes, state};'])
+    out = head('each thin call by value, lent a local: the arms of `lend`.',
+               ['crate::thin', 'builder::Called', 'builder::FinishCalled', 'run::Builder', 'value::variant::Variant', 'value::variant::VariantBytes'], RECORD,
+               ['ghost use Rattle.run.specs.Step.{step};', 'ghost use Rattle.builder.specs.Calls.{Does, Finishes, state};'])
     for name, ps, result, contract, _ in fns:
         call = 'thin::%s(%s)' % (name, ', '.join(['&mut c'] + [p for p, _ in ps]))
-        out += function(name + '_lent', 'Builder', ps, result, contract, '',
+        out += function('pub(crate) fn %s_lent' % name, 'Builder', ps, result, contract, '',
                         ['let mut c = b;', 'let a = %s;' % call, 'let d = c;', result + ' {', '    answer: a,', '    builder: d,', '}'])
     return '\n'.join(out) + '\n'
 
@@ -116,9 +121,11 @@ def proof(name, ps, result, contract, bridge):
     entry = lambda t: re.sub(r'\(now \((\w+) \.entry\)\)', r'\1', t)
     exit = lambda t: re.sub(r'\(now \((\w+) \.exit\)\)', lambda m: ends[m[1]], entry(t))
     record = 'b' if bridge else '(b .now)'
-    step = entry(parts[-1])[1:-1].replace('(state b ', '(state %s ' % record)
-    rest = ' '.join(exit(p) for p in parts[2:-1]) + ' o'
-    used = lambda w: re.search(r'(?<![\w.])%s(?!\w)' % w, step + ' ' + rest)
+    state, call = (entry(p) for p in step_of(parts))
+    state = state[1:-1].replace('state b ', 'state %s ' % record)
+    call = call[1:-1] if call[0] == '(' else call
+    rest = ' '.join(exit(p) for p in parts[2:-1])
+    used = lambda w: re.search(r'(?<![\w.])%s(?!\w)' % w, ' '.join([state, call, rest]))
     bools = [w for w in ('false', 'true') if used(w)]
     P = 'Rattle.calls.proofs.'
     self, callee = (P + 'bridge.%s_lent' % name, P + 'thin.' + name) if bridge else (P + 'thin.' + name, 'Rattle.builder.proofs.' + name)
@@ -158,17 +165,17 @@ def proof(name, ps, result, contract, bridge):
           '  abbrev ways : (κs : Lfts %d) → Ways (Rs κs)' % refs, '  ways κs = ' + row, '',
           '  meets : Triple 𝓤 (𝓣 .C #callee) (tripleOf 𝓤 H A callee.signature (callee.spec 𝓤 H A mem run)) → Meets 𝓤 H A self.signature (WpFn 𝓤 H (𝓣 .C) (𝓣 .Λ) code.function) (self.spec 𝓤 H A mem run)',
           '  meets known y =']
-    for x, t in [('κs', 'y .0 .0'), ('qs', 'y .0 .1'), ('b', 'y .0 .3 .0'), ('a', 'y .0 .3 .1')] + [l for l in lets if used(l[0])] + [('o', step), ('vss', 'vssOf (Rs κs) (ways κs) a')]:
+    for x, t in [('κs', 'y .0 .0'), ('qs', 'y .0 .1'), ('b', 'y .0 .3 .0'), ('a', 'y .0 .3 .1')] + [l for l in lets if used(l[0])] + [('s', state), ('k', call), ('vss', 'vssOf (Rs κs) (ways κs) a')]:
         L.append('      let %s = %s in' % (x, t))
     first = ('LL.vals B.the-type B′.the-laws', 'LL.tells B.the-type B′.the-laws') if bridge else ('ptr-vals', 'mut-tells (lft 0) (κs .0) B.the-row')
     L += ['      spelled 𝓤 H A self.signature (self.spec 𝓤 H A mem run) (WpFn 𝓤 H (𝓣 .C) (𝓣 .Λ) code.function) y (%s, spellsOf (Rs κs) (ways κs)) (%s, tellsOf (Rs κs) (ways κs))' % first]
     if bridge:
         L += ['      (λ are. lent-meets %s 𝓤 H A W 𝓣 #callee b (emp 𝓤) %d (others (self.signature .params)) (self.ended .kept .1) κs qs (ways κs) a (are .1)' % (of, refs),
-              '      (λ r ws. %s r %s) (λ c w ws. %sThin c w %s) (λ c w ws. %s c w %s)' % (does, rest, does, rest, says, rest),
+              '      (λ r ws. %s r %s (step s k)) (λ c w ws. %sThin c w %s s k) (λ c w ws. %s c w %s s k)' % (does, rest, does, rest, says, rest),
               '      (λ α l γ. known (((α ∷ [], κs), (fullShare, qs), tt, (record { ptr = (l, 0); name = γ; now = b }, a), (vptr l 0 ∷ [], vss)), tt)))']
     else:
         L += ['      (λ are. thin-meets %s 𝓤 H A W 𝓣 #callee (κs .0) (qs .0) b (Rs κs) (ways κs) a (are .1) (emp 𝓤) %d (others (callee.signature .params)) (callee.ended .kept .1) (κs .1) (qs .1) a vss' % (of, refs - 1),
-              '      (λ r ws. %s r %s) (λ c w ws. %sThin c w %s) (λ r ws. %s r %s)' % (does, rest, does, rest, says, rest),
+              '      (λ r ws. %s r %s (step s k)) (λ c w ws. %sThin c w %s s k) (λ r ws. %s r %s s k)' % (does, rest, does, rest, says, rest),
               '      (known ((κs .1, qs .1, tt, (b .now, a), (bv (b .now) ∷ [], vss)), tt)))']
     dashed = name.replace('_', '-')
     me = dashed + '-lent' if bridge else dashed
@@ -187,10 +194,10 @@ def main():
     RECORD = re.search(r'ghost use Rattle\.run\.specs\.Record\.\{(.*?)\};', text)[1]
     fns = list(calls(text))
     there = os.path.join(root, 'crates/calls')
-    for module, bridge, some, write in [('thin', False, fns, thin_code), ('bridge', True, [f for f in fns if f[0] in BRIDGED], bridge_code)]:
-        open(os.path.join(there, 'src/%s.rt' % module), 'w').write(write(some))
+    for module, bridge, write in [('thin', False, thin_code), ('bridge', True, bridge_code)]:
+        open(os.path.join(there, 'src/%s.rt' % module), 'w').write(write(fns))
         shutil.rmtree(os.path.join(there, 'proofs', module), ignore_errors=True)
-        for name, ps, result, contract, _ in some:
+        for name, ps, result, contract, _ in fns:
             folder = os.path.join(there, 'proofs', module, name + ('_lent' if bridge else ''))
             os.makedirs(folder)
             open(os.path.join(folder, 'Proof.antt'), 'w').write(proof(name, ps, result, contract, bridge))

@@ -1,5 +1,5 @@
 -- The way back: a call by value over a thin call, walked once for every list of parameters and every answer type. From source it is
---     pub fn f_lent(b: Builder, ..) -> Called { let mut c = b; let a = f(&mut c, ..); let d = c; Called { answer: a, builder: d } }
+--     pub(crate) fn f_lent(b: Builder, ..) -> Called { let mut c = b; let a = f(&mut c, ..); let d = c; Called { answer: a, builder: d } }
 -- A local that holds the record is lent to the thin call for a lifetime that is made for the call, and read again once that is over.
 --     lentFn n f ps    the MIR of such a function of n lifetimes, over the parameters ps (`Lent.antt`)
 --     lent-meets       from the thin call's triple, at each such local, to that of the call by value: what the one says of its answer
@@ -41,8 +41,8 @@ use denote.Triple.Call.{calls-from}
 use denote.Triple.End.{Kepts, Fins, lastsOf}
 use denote.Triple.Walked.{says}
 use Rattle.run.specs.declared.Builder.{Builder}
-use Rattle.run.specs.Record.{Storage}
-use Rattle.run.specs.Step.{Outcome}
+use Rattle.run.specs.Record.{Storage, State, Call}
+use Rattle.run.specs.Step.{step}
 use Rattle.builder.specs.Calls.{Does, Finishes}
 use Rattle.calls.specs.Calls.{DoesThin, FinishesThin}
 use Rattle.run.proofs.Builder as B
@@ -184,8 +184,8 @@ module _ (R : Reply) {M : Type 1} (𝓤 : URA M) (H : Heap 𝓤) (A : Atoms 𝓤
       move ! (14 ∷ 15 ∷ []) $ free1 ! $ move ! (12 ∷ 13 ∷ []) $ free1 ! $ move ! (3 ∷ []) $ frees-ps ! E ps bs $ move ! (0 ∷ 10 ∷ []) $ free1 ! $ move ! (7 ∷ 8 ∷ []) $ free1 ! $ move ! (5 ∷ 6 ∷ []) $ free1 ! $ move ! (3 ∷ 4 ∷ []) $ free1 ! $ move ! (2 ∷ []) $ frees-ts ! ps ts $
       by ! (exits c (ws .0) (ws .1) e made))))))))))))))))))
 
-pub thin-does : (c : Answer) (w : Builder) (after : Storage) (o : Outcome) → DoesThin c w after o → Does (called .make c w) after o
-thin-does c w after o e = (λ i. called .make (e .0 i) (e .1 i), e .2)
+pub thin-does : (c : Answer) (w : Builder) (after : Storage) (s : State) (k : Call) → DoesThin c w after s k → Does (called .make c w) after (step s k)
+thin-does c w after s k e = (λ i. called .make (e .0 i) (e .1 i), e .2)
 
-pub thin-finishes : (c : FinishAnswer) (w : Builder) (after : Storage) (out : List ℕ) (o : Outcome) → FinishesThin c w after out o → Finishes (finishCalled .make c w) after out o
-thin-finishes c w after out o e = (λ i. finishCalled .make (e .0 i) (e .1 i), e .2, e .3)
+pub thin-finishes : (c : FinishAnswer) (w : Builder) (after : Storage) (out : List ℕ) (s : State) (k : Call) → FinishesThin c w after out s k → Finishes (finishCalled .make c w) after out (step s k)
+thin-finishes c w after out s k e = (λ i. finishCalled .make (e .0 i) (e .1 i), e .2, e .3)

@@ -1,4 +1,5 @@
--- The walk of a thin call.
+-- The walk of a thin call, and what `lend` makes of it.
 pub mod Lent
 pub mod ThinLaws
 pub mod BridgeLaws
+pub mod LendLaws

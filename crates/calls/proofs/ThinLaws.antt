@@ -50,8 +50,8 @@ use denote.Triple.Walked.{says}
 use Rattle.run.specs.declared.Builder.{Builder}
 use Rattle.run.proofs.Builder as B
 use Rattle.run.proofs.Builder.Laws as B′
-use Rattle.run.specs.Record.{Storage}
-use Rattle.run.specs.Step.{Outcome}
+use Rattle.run.specs.Record.{Storage, State, Call}
+use Rattle.run.specs.Step.{step}
 use Rattle.builder.specs.Calls.{Does, Finishes}
 use Rattle.calls.specs.Calls.{DoesThin, FinishesThin}
 use Rattle.builder.specs.declared.Called.{Called}
@@ -233,11 +233,11 @@ module _ (R : Reply) {M : Type 1} (𝓤 : URA M) (H : Heap 𝓤) (A : Atoms 𝓤
       move ! (5 ∷ []) $ frees-ps ! E ps bs $ move ! (8 ∷ 9 ∷ []) $ free1 ! $ move ! (6 ∷ 7 ∷ []) $ free1 ! $ move ! (5 ∷ []) $ frees-ts ! ps ts $
       by ! (ends r _ is))))))))))))
 
-pub does-thin : (r : Called) (after : Storage) (o : Outcome) → Does r after o → DoesThin (r .answer) (r .builder) after o
-does-thin r after o e = (ap (λ (c : Called). c .answer) (e .0), ap (λ (c : Called). c .builder) (e .0), e .1)
+pub does-thin : (r : Called) (after : Storage) (s : State) (k : Call) → Does r after (step s k) → DoesThin (r .answer) (r .builder) after s k
+does-thin r after s k e = (ap (λ (c : Called). c .answer) (e .0), ap (λ (c : Called). c .builder) (e .0), e .1)
 
-pub finishes-thin : (r : FinishCalled) (after : Storage) (out : List ℕ) (o : Outcome) → Finishes r after out o → FinishesThin (r .answer) (r .builder) after out o
-finishes-thin r after out o e = (ap (λ (c : FinishCalled). c .answer) (e .0), ap (λ (c : FinishCalled). c .builder) (e .0), e .1, e .2)
+pub finishes-thin : (r : FinishCalled) (after : Storage) (out : List ℕ) (s : State) (k : Call) → Finishes r after out (step s k) → FinishesThin (r .answer) (r .builder) after out s k
+finishes-thin r after out s k e = (ap (λ (c : FinishCalled). c .answer) (e .0), ap (λ (c : FinishCalled). c .builder) (e .0), e .1, e .2)
 
 -- ---- the machine values of the arguments, written out
 module _ {M : Type 1} (𝓤 : URA M) (H : Heap 𝓤) (A : Atoms 𝓤) (S : Signature) (c : Spec 𝓤 S) (run : Fun 𝓤) (y : tripleOf 𝓤 H A S c .Ghost) (sp : Spells (typesAt (S .params) (y .0 .0))) where

@@ -1,17 +1,37 @@
-// Written by tools/thin.py: calls by value that lend a local to a thin call, for a program to run these.
+// Written by tools/thin.py: each thin call by value, lent a local: the arms of `lend`.
 use crate::thin;
 use builder::Called;
 use builder::FinishCalled;
 use run::Builder;
 use value::variant::Variant;
+use value::variant::VariantBytes;
 ghost use mathlib.Core.Path.{_≡_};
 ghost use mathlib.Core.Bool.{false, true};
-ghost use Rattle.run.specs.Record.{append as appendOf, close as closeOf, finish as finishOf, fixed, openIn, rollBack};
-ghost use Rattle.run.specs.Step.{step};
+ghost use Rattle.run.specs.Record.{append as appendOf, bytes as bytesOf, close as closeOf, finish as finishOf, fixed, openIn, register as registerOf, rollBack, uniqueness, uuid as uuidOf};
 ghost use Rattle.table.specs.Decide.{nameOf, stored};
+ghost use Rattle.run.specs.Step.{step};
 ghost use Rattle.builder.specs.Calls.{Does, Finishes, state};
 
-pub fn append_value_lent(
+pub(crate) fn add_field_name_lent(
+    b: Builder,
+    value: &[u8],
+    text: &mut [u8],
+    ends: &mut [usize],
+    entries: &[usize],
+    name: &[u8],
+) -> Called
+    ensures { λ r. ⌜ Does r (stored (now (value .entry)) (now (text .exit)) (now (ends .exit)) (now (entries .entry))) (step (state b (stored (now (value .entry)) (now (text .entry)) (now (ends .entry)) (now (entries .entry)))) (registerOf (now (name .entry)))) ⌝ }
+{
+    let mut c = b;
+    let a = thin::add_field_name(&mut c, value, text, ends, entries, name);
+    let d = c;
+    Called {
+        answer: a,
+        builder: d,
+    }
+}
+
+pub(crate) fn append_value_lent(
     b: Builder,
     value: &mut [u8],
     text: &mut [u8],
@@ -32,7 +52,50 @@ pub fn append_value_lent(
     }
 }
 
-pub fn new_list_lent(
+pub(crate) fn append_bytes_lent(
+    b: Builder,
+    value: &mut [u8],
+    text: &mut [u8],
+    ends: &mut [usize],
+    entries: &mut [usize],
+    named: bool,
+    name: &[u8],
+    kind: VariantBytes,
+    bytes: &[u8],
+) -> Called
+    ensures { λ r. ⌜ Does r (stored (now (value .exit)) (now (text .exit)) (now (ends .exit)) (now (entries .exit))) (step (state b (stored (now (value .entry)) (now (text .entry)) (now (ends .entry)) (now (entries .entry)))) (appendOf (nameOf named (now (name .entry))) (bytesOf kind (now (bytes .entry))))) ⌝ }
+{
+    let mut c = b;
+    let a = thin::append_bytes(&mut c, value, text, ends, entries, named, name, kind, bytes);
+    let d = c;
+    Called {
+        answer: a,
+        builder: d,
+    }
+}
+
+pub(crate) fn append_uuid_lent(
+    b: Builder,
+    value: &mut [u8],
+    text: &mut [u8],
+    ends: &mut [usize],
+    entries: &mut [usize],
+    named: bool,
+    name: &[u8],
+    uuid: [u8; 16],
+) -> Called
+    ensures { λ r. ⌜ Does r (stored (now (value .exit)) (now (text .exit)) (now (ends .exit)) (now (entries .exit))) (step (state b (stored (now (value .entry)) (now (text .entry)) (now (ends .entry)) (now (entries .entry)))) (appendOf (nameOf named (now (name .entry))) (uuidOf uuid))) ⌝ }
+{
+    let mut c = b;
+    let a = thin::append_uuid(&mut c, value, text, ends, entries, named, name, uuid);
+    let d = c;
+    Called {
+        answer: a,
+        builder: d,
+    }
+}
+
+pub(crate) fn new_list_lent(
     b: Builder,
     value: &[u8],
     text: &mut [u8],
@@ -52,7 +115,7 @@ pub fn new_list_lent(
     }
 }
 
-pub fn new_object_lent(
+pub(crate) fn new_object_lent(
     b: Builder,
     value: &[u8],
     text: &mut [u8],
@@ -72,7 +135,7 @@ pub fn new_object_lent(
     }
 }
 
-pub fn close_lent(
+pub(crate) fn close_lent(
     b: Builder,
     value: &mut [u8],
     text: &[u8],
@@ -90,7 +153,7 @@ pub fn close_lent(
     }
 }
 
-pub fn rollback_lent(
+pub(crate) fn rollback_lent(
     b: Builder,
     value: &[u8],
     text: &[u8],
@@ -108,7 +171,26 @@ pub fn rollback_lent(
     }
 }
 
-pub fn finish_lent(
+pub(crate) fn with_validate_unique_fields_lent(
+    b: Builder,
+    value: &[u8],
+    text: &[u8],
+    ends: &[usize],
+    entries: &[usize],
+    unique: bool,
+) -> Called
+    ensures { λ r. ⌜ Does r (stored (now (value .entry)) (now (text .entry)) (now (ends .entry)) (now (entries .entry))) (step (state b (stored (now (value .entry)) (now (text .entry)) (now (ends .entry)) (now (entries .entry)))) (uniqueness unique)) ⌝ }
+{
+    let mut c = b;
+    let a = thin::with_validate_unique_fields(&mut c, value, text, ends, entries, unique);
+    let d = c;
+    Called {
+        answer: a,
+        builder: d,
+    }
+}
+
+pub(crate) fn finish_lent(
     b: Builder,
     value: &[u8],
     text: &[u8],

@@ -19,14 +19,11 @@
 // src/builder.rs, src/builder/list.rs and src/builder/object.rs. Changed: written in Rattle; each call takes the builder record by
 // `&mut`, copies it, makes the call by value and stores the record that came back.
 mod bridge;
+mod lending;
 mod thin;
 
-pub use bridge::append_value_lent;
-pub use bridge::close_lent;
-pub use bridge::finish_lent;
-pub use bridge::new_list_lent;
-pub use bridge::new_object_lent;
-pub use bridge::rollback_lent;
+pub use lending::lend;
+use run::Builder;
 pub use thin::add_field_name;
 pub use thin::append_bytes;
 pub use thin::append_uuid;
@@ -37,3 +34,26 @@ pub use thin::new_list;
 pub use thin::new_object;
 pub use thin::rollback;
 pub use thin::with_validate_unique_fields;
+use value::variant::Variant;
+use value::variant::VariantBytes;
+
+// A call to be made. Its name, bytes, UUID and output stand beside it.
+pub enum Call {
+    AddFieldName,
+    AppendValue(Variant),
+    AppendBytes(VariantBytes),
+    AppendUuid,
+    NewList,
+    NewObject,
+    Close,
+    Rollback,
+    WithValidateUniqueFields(bool),
+    Finish,
+}
+
+// A call's number, 0 where it was carried out; the bytes that a finish wrote; the builder then.
+pub struct LendCalled {
+    pub number: u8,
+    pub written: usize,
+    pub builder: Builder,
+}

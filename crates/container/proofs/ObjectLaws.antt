@@ -1,9 +1,9 @@
--- What closing an object takes: the largest id, the header's parts one behind the other, the sort in place, and the answers.
+-- What closing an object takes: the header's parts one behind the other, the sort in place, and the answers.
 use mathlib.Core.Path.{_≡_, refl, sym, _∙_, ap}
 use mathlib.Core.Bool.{true, false}
 use mathlib.Core.Logic.{inl, inr}
-use mathlib.Core.List.{List, [], _∷_, _++_, append-assoc}
-use Prim.Native.Nat.{ℕ, zero, suc, _+_, _-_, _*_, _≤_, _<_, max}
+use mathlib.Core.List.{List, [], _∷_, _++_, append-assoc, map}
+use Prim.Native.Nat.{ℕ, zero, suc, _+_, _-_, _*_, _≤_, _<_}
 use native.Mathlib.Omega.{arith}
 use native.Mathlib.Nat.{mul-le-mul-right}
 use lib.ListN.{set, length, getD, length-append, length-map}
@@ -22,27 +22,12 @@ use Rattle.container.specs.declared.Noted.{Noted}
 use Rattle.container.specs.Layout.{countSize, large, largest, objectByte, objectHeader, objectHeaderAt, objectHeaderSize}
 use Rattle.container.specs.Entries.{entriesOf, entryAt, idsOf, offsetsOf, putEntries, roomFor, setEntry, strided, Notes}
 use Rattle.container.specs.Sort.{nameAt, insert, sort, swapped, inserted, sortedIn}
-use Rattle.container.specs.Close.{freed}
+use Rattle.container.specs.Close.{dataSize, entriesIn, freed, objectFront, sorted}
 use Rattle.container.proofs.EntryLaws.{length-set-entry, entry-set-same, entries-set-other, length-entries, entries-append, length-put, entries-put-other, entries-put-same, set-entry-self, put-self, put-over}
+use Rattle.container.proofs.LayoutLaws.{length-object-at}
 use Rattle.container.proofs.EntryWalk.{entries-next, entries-done}
 use Rattle.container.proofs.HeaderLaws.{length-row, strided-ids, strided-offsets, one-more, write-count, write-next}
-use Rattle.container.proofs.SortLaws.{length-insert, length-sort, largest-sort, sort-sort, length-object-entries}
-
--- ---- the largest id: with those still to be read it is the answer
-
-pub record Largest (t : ℕ) (l : List ℕ) (end most k : ℕ) : Type 0 where
-  pub same : max most (largest (idsOf (entriesOf l k (end - k)))) ≡ t
-
-pub largest-start : (l : List ℕ) (from to : ℕ) → Largest (largest (idsOf (entriesOf l from (to - from)))) l to 0 from
-largest-start l from to = record { same = omega arith }
-
-pub largest-again : {t : ℕ} {l : List ℕ} {end most k m : ℕ} → Largest t l end most k → k < end → m ≡ max most (getD l (2 * k) 0) → Largest t l end m (k + 1)
-unfolding largest
-largest-again {l = l} {end = end} {k = k} s h e = let q = rw (entries-next l k end h) at (s .same) in record { same = omega arith }
-
-pub largest-end : {t : ℕ} {l : List ℕ} {end most k : ℕ} → Largest t l end most k → end ≤ k → most ≡ t
-unfolding largest
-largest-end {l = l} {end = end} {k = k} s h = let q = rw (entries-done l k end h) at (s .same) in omega arith
+use Rattle.container.proofs.SortLaws.{length-insert, length-sort, largest-sort, sort-sort}
 
 -- ---- the header
 
@@ -228,22 +213,34 @@ sorts-end {names = names} {from = from} {to = to} {l = l} {j = j} s h =
 
 -- ---- closing
 
--- the entries from `from` up to `to`, whose largest id is `most`, and those that the sort leaves in m
-module _ (names : List Name) (from to most size : ℕ) (l : List ℕ) (e : most ≡ largest (idsOf (entriesOf l from (to - from)))) where
+-- the entries from `from` up to `to`, and those that the sort leaves in m
+module _ (names : List Name) (from to most size : ℕ) (l : List ℕ) where
   abbrev ordered : List Entry
   ordered = sort names (entriesOf l from (to - from))
 
-  pub object-size : {header : ℕ} → header ≡ objectHeaderSize (to - from) most size → header ≡ length (objectHeader (idsOf ordered) (offsetsOf ordered) size)
-  object-size h = h ∙ (rw (e, length-object-entries names size (entriesOf l from (to - from)), length-entries l from (to - from)))
+  abbrev front : List ℕ
+  front = objectHeaderAt (width size) (width most) (large (length (idsOf ordered))) (idsOf ordered) (offsetsOf ordered) size
+
+  as-many : (k : Entry → ℕ) → length (map k ordered) ≡ to - from
+  as-many k = length-map ordered k ∙ (length-sort names (entriesOf l from (to - from)) ∙ length-entries l from (to - from))
+
+  pub object-size : {header : ℕ} → header ≡ objectHeaderSize (to - from) most size → header ≡ length front
+  object-size h =
+      let pairs = as-many (λ x. x .offset) ∙ sym (as-many (λ x. x .id)) in
+      rw (length-object-at (width size) (width most) (large (length (idsOf ordered))) (idsOf ordered) (offsetsOf ordered) size pairs, as-many (λ x. x .id)) h
 
   -- the header written is that of the sorted entries
   pub object-front : (at : ℕ) (v : List ℕ) {m after : List ℕ} → m ≡ sortedIn names from to l → from ≤ to → 2 * to ≤ length l
       → after ≡ write at (objectHeaderAt (width size) (width most) (large (to - from)) (idsOf (entriesOf m from (to - from))) (offsetsOf (entriesOf m from (to - from))) size) v
-      → after ≡ write at (objectHeader (idsOf ordered) (offsetsOf ordered) size) v
-  unfolding objectHeader sortedIn
-  object-front at v p a h w =
-      let c : length (idsOf ordered) ≡ to - from = length-map ordered (λ x. x .id) ∙ (length-sort names (entriesOf l from (to - from)) ∙ length-entries l from (to - from)) in
-      rw (c, largest-sort names (λ x. x .id) (entriesOf l from (to - from)), ← e) (rw (p, last-read names from from to l (omega arith) a h) at w)
+      → after ≡ write at front v
+  unfolding sortedIn
+  object-front at v p a h w = rw (as-many (λ x. x .id)) (rw (p, last-read names from from to l (omega arith) a h) at w)
+
+-- the largest id: the header is document 01's
+pub front-largest : (f : Frame) (most : ℕ) (names : List Name) (l : List ℕ) → most ≡ largest (idsOf (entriesIn f l))
+    → objectFront f most names l ≡ objectHeader (idsOf (sorted f names l)) (offsetsOf (sorted f names l)) (dataSize f)
+unfolding objectHeader
+front-largest f most names l e = rw (e, largest-sort names (λ x. x .id) (entriesIn f l))
 
 pub freed-sorted : (f : Frame) (names : List Name) (l : List ℕ) {m : List ℕ} → m ≡ sortedIn names (f .from) (f .to) l → m ≡ freed f names l
 unfolding freed sortedIn

@@ -4,7 +4,7 @@ use crate::Noted;
 use crate::Search;
 ghost use mathlib.Core.Bool.{cond};
 ghost use mathlib.Core.Path.{_≡_};
-ghost use Prim.Native.Nat.{_+_, _*_, _^_, _<_, min};
+ghost use Prim.Native.Nat.{_+_, _*_, _^_, _<_, max, min};
 ghost use lib.ListN.{getD, set};
 ghost use Rattle.container.specs.Entries.{Notes, Searches, entryAt};
 
@@ -49,7 +49,7 @@ pub fn replace_offset(entries: &mut [usize], k: usize, offset: usize) -> usize
 }
 
 // The entries from `from` up to `to`: has one an offset beyond `size` bytes of data or, in an object, an id not below `names`;
-// and where the first of this id stands.
+// where the first of this id stands; and which id is the largest.
 pub fn search_entries(
     entries: &[usize],
     from: usize,
@@ -65,6 +65,7 @@ pub fn search_entries(
     let mut bad = false;
     let mut met = false;
     let mut place = from;
+    let mut most = 0;
     let mut k = from;
     while k < end {
         let e_id = entries[2 * k];
@@ -72,11 +73,13 @@ pub fn search_entries(
         bad = bad | ((size < offset) | (object & (names <= e_id)));
         met = met | (e_id == id);
         place = passed(met, place);
+        most = greater(most, e_id);
         k += 1;
     }
     Search {
         misplaced: bad,
         place: place,
+        largest: most,
     }
 }
 
@@ -89,6 +92,15 @@ fn passed(met: bool, place: usize) -> usize
         return place;
     }
     place + 1
+}
+
+fn greater(a: usize, b: usize) -> usize
+    ensures { λ r. ⌜ r ≡ max a b ⌝ }
+{
+    if a < b {
+        return b;
+    }
+    a
 }
 
 fn number_at(numbers: &[usize], p: usize) -> usize

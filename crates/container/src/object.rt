@@ -13,28 +13,29 @@ use encoding::width::int_size;
 use metadata::MetadataBuilder;
 use metadata::name_is_below;
 ghost use mathlib.Core.Path.{_≡_};
-ghost use Prim.Native.Nat.{_+_, _-_, _*_, _^_, _≤_, _<_, max};
+ghost use Prim.Native.Nat.{_+_, _-_, _*_, _^_, _≤_, _<_};
 ghost use lib.ListN.{length};
 ghost use Rattle.encoding.specs.Slices.{write};
 ghost use Rattle.encoding.specs.Width.{width};
 ghost use Rattle.encoding.specs.Slices.{counted as countedOf};
 ghost use Rattle.metadata.specs.Names.{namesOf};
-ghost use Rattle.container.specs.Layout.{large, largest, objectByte, objectHeaderAt, objectHeaderSize};
+ghost use Rattle.container.specs.Layout.{large, objectByte, objectHeaderAt, objectHeaderSize};
 ghost use Rattle.container.specs.Entries.{entriesOf, idsOf, offsetsOf};
 ghost use Rattle.container.specs.Sort.{inserted, sortedIn, swapped};
 ghost use Rattle.container.specs.Close.{ClosesObject};
 
-// The entries sorted by their names and the header put before the data; nothing is sorted, moved or written where the header
-// does not fit after the used bytes.
+// The entries sorted by their names and the header put before the data, its ids in the width of `most`, which is to be the
+// largest of them; nothing is sorted, moved or written where the header does not fit after the used bytes.
 pub fn close_object(
     f: Frame,
+    most: usize,
     m: MetadataBuilder,
     text: &[u8],
     ends: &[usize],
     value: &mut [u8],
     entries: &mut [usize],
 ) -> Closed
-    ensures { λ r. ⌜ ClosesObject f (namesOf m (now (text .entry)) (now (ends .entry))) (now (value .entry)) (now (entries .entry)) r (now (value .exit)) (now (entries .exit)) ⌝ }
+    ensures { λ r. ⌜ ClosesObject f most (namesOf m (now (text .entry)) (now (ends .entry))) (now (value .entry)) (now (entries .entry)) r (now (value .exit)) (now (entries .exit)) ⌝ }
 {
     if outside(f, value.len(), entries.len()) {
         return Closed::Damaged;
@@ -44,7 +45,6 @@ pub fn close_object(
     let from = f.from;
     let to = f.to;
     let size = used - start;
-    let most = largest_id(entries, from, to);
     let header = object_header_size(to - from, most, size);
     if fits(used, header, value.len()) {
         sort(entries, from, to, m, text, ends);
@@ -53,28 +53,6 @@ pub fn close_object(
         return Closed::Done(used + header);
     }
     Closed::NoRoom
-}
-
-fn largest_id(entries: &[usize], from: usize, to: usize) -> usize
-    requires { ⌜ (from ≤ to) × (2 * to ≤ length (now entries)) ⌝ }
-    ensures { λ r. ⌜ r ≡ largest (idsOf (entriesOf (now (entries .entry)) from (to - from))) ⌝ }
-{
-    let mut most = 0;
-    let mut k = from;
-    while k < to {
-        most = greater(most, entries[2 * k]);
-        k += 1;
-    }
-    most
-}
-
-fn greater(a: usize, b: usize) -> usize
-    ensures { λ r. ⌜ r ≡ max a b ⌝ }
-{
-    if a < b {
-        return b;
-    }
-    a
 }
 
 fn object_header_size(n: usize, most: usize, size: usize) -> usize

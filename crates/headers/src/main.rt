@@ -6,6 +6,7 @@ use container::Frame;
 use container::close_list;
 use container::close_object;
 use container::put_entry;
+use container::search_entries;
 use metadata::MetadataBuilder;
 use metadata::add_field_name;
 
@@ -43,8 +44,10 @@ fn noted(entries: &mut [usize], n: usize) {
 fn no_fields(label: &[u8]) {
     let mut value = [0u8; 64];
     let mut entries = [0usize; 4];
+    let most = largest(&entries, 0);
     let closed = close_object(
         frame(0, 0),
+        most,
         metadata::new(),
         b"",
         &[],
@@ -58,8 +61,10 @@ fn object(label: &[u8], id: usize) {
     let mut value = [0u8; 64];
     let mut entries = [0usize; 4];
     put_entry(&mut entries, 0, Entry { id, offset: 0 });
+    let most = largest(&entries, 1);
     let closed = close_object(
         frame(1, 1),
+        most,
         metadata::new(),
         b"",
         &[],
@@ -78,12 +83,26 @@ fn two_fields(label: &[u8]) {
     let mut entries = [0usize; 4];
     put_entry(&mut entries, 0, Entry { id: 0, offset: 0 });
     put_entry(&mut entries, 1, Entry { id: 1, offset: 2 });
-    let closed = close_object(frame(4, 2), ba, &text, &ends, &mut value, &mut entries);
+    let most = largest(&entries, 2);
+    let closed = close_object(
+        frame(4, 2),
+        most,
+        ba,
+        &text,
+        &ends,
+        &mut value,
+        &mut entries,
+    );
     line(label, closed, 4, &value);
 }
 
 fn with(m: MetadataBuilder, text: &mut [u8], ends: &mut [usize], name: &[u8]) -> MetadataBuilder {
     add_field_name(m, text, ends, name).metadata
+}
+
+// The largest id of the first n entries.
+fn largest(entries: &[usize], n: usize) -> usize {
+    search_entries(entries, 0, n, true, 0, 0, 0).largest
 }
 
 fn frame(used: usize, to: usize) -> Frame {

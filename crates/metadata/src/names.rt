@@ -43,7 +43,12 @@ pub fn name_is_below(m: MetadataBuilder, text: &[u8], ends: &[usize], a: usize, 
 }
 
 // The name of an id, a part of the text.
-pub fn name<'a, 'b>(m: MetadataBuilder, text: &'a [u8], ends: &'b [usize], id: usize) -> &'a [u8]
+pub(crate) fn name<'a, 'b>(
+    m: MetadataBuilder,
+    text: &'a [u8],
+    ends: &'b [usize],
+    id: usize,
+) -> &'a [u8]
     ensures { λ r. ⌜ now r ≡ getD (namesOf m (now (text .entry)) (now (ends .entry))) id [] ⌝ }
 {
     if m.names <= id {
@@ -57,7 +62,7 @@ pub fn name<'a, 'b>(m: MetadataBuilder, text: &'a [u8], ends: &'b [usize], id: u
     part(text, start, end)
 }
 
-pub fn same(a: &[u8], b: &[u8]) -> bool
+pub(crate) fn same(a: &[u8], b: &[u8]) -> bool
     ensures { λ r. ⌜ r ≡ sameOf (now (a .entry)) (now (b .entry)) ⌝ }
 {
     if a.len() != b.len() {
@@ -74,7 +79,7 @@ pub fn same(a: &[u8], b: &[u8]) -> bool
 }
 
 // Is a below b, by bytes?
-pub fn below(a: &[u8], b: &[u8]) -> bool
+pub(crate) fn below(a: &[u8], b: &[u8]) -> bool
     ensures { λ r. ⌜ r ≡ belowOf (now (a .entry)) (now (b .entry)) ⌝ }
 {
     let mut i = 0;

@@ -8,6 +8,9 @@ use run::Counts;
 use run::View;
 use table::close_number;
 ghost use mathlib.Core.Path.{_≡_};
+ghost use Prim.Native.Nat.{_-_};
+ghost use Rattle.container.specs.Layout.{largest};
+ghost use Rattle.container.specs.Entries.{entriesOf, idsOf};
 ghost use Rattle.run.specs.Record.{close as closeOf};
 ghost use Rattle.table.specs.Decide.{stored};
 ghost use Rattle.pieces.specs.Pieces.{Fronts, Leaves};
@@ -21,7 +24,8 @@ pub fn close_over(
 ) -> Moved
     ensures { λ r. ⌜ Leaves v (stored (now (value .entry)) (now (text .entry)) (now (ends .entry)) (now (entries .entry))) closeOf r (stored (now (value .exit)) (now (text .entry)) (now (ends .entry)) (now (entries .exit))) ⌝ }
 {
-    let n = close_number(v, value, text, ends, entries);
+    let d = close_number(v, value, text, ends, entries);
+    let n = d.number;
     let c = v.counts;
     if n != 0 {
         return Moved {
@@ -29,7 +33,7 @@ pub fn close_over(
             number: n,
         };
     }
-    let r = put_header(v, value, text, ends, entries);
+    let r = put_header(v, d.largest, value, text, ends, entries);
     match r {
         Closed::Done(used) => {
             let m = c.dictionary;
@@ -56,13 +60,16 @@ pub fn close_over(
     }
 }
 
+// `most` is the largest id.
 fn put_header(
     v: View,
+    most: usize,
     value: &mut [u8],
     text: &[u8],
     ends: &[usize],
     entries: &mut [usize],
 ) -> Closed
+    requires { ⌜ most ≡ largest (idsOf (entriesOf (now entries) (v .inner .entries) (v .counts .entries - v .inner .entries))) ⌝ }
     ensures { λ r. ⌜ Fronts v (stored (now (value .entry)) (now (text .entry)) (now (ends .entry)) (now (entries .entry))) r (now (value .exit)) (now (entries .exit)) ⌝ }
 {
     let f = Frame {
@@ -73,7 +80,7 @@ fn put_header(
     };
     if v.inner.object {
         let m = v.counts.dictionary;
-        return close_object(f, m, text, ends, value, entries);
+        return close_object(f, most, m, text, ends, value, entries);
     }
     close_list(f, value, entries)
 }

@@ -1,11 +1,11 @@
 -- A call's number, from what the functions that it rests on answer.
-use mathlib.Core.Path.{_≡_, refl, sym}
+use mathlib.Core.Path.{_≡_, refl, sym, _∙_}
 use mathlib.Core.Bool.{Bool, true, false, cond, not, _&&_, _||_, or-false}
 use Prim.Native.Nat.{ℕ, _≤_}
 use mathlib.Core.List.{List}
 use lib.Dec.{eqb, ltb}
 use lib.ListN.{length, take}
-use borrow.Author.Tests.{eqb-true}
+use borrow.Author.Tests.{eqb-true, eq-eqb, ne-eqb}
 use Rattle.encoding.specs.Utf8.{utf8}
 use Rattle.metadata.specs.Names.{Name, intact, namesOf, place}
 use Rattle.metadata.specs.Calls.{Told, hasRoom, lookup, refused}
@@ -13,12 +13,12 @@ use Rattle.container.specs.declared.Search.{Search}
 use Rattle.container.specs.Entries.{Searches, roomFor}
 use Rattle.run.specs.declared.ParentEntry.the-variants.{New, Replaced}
 use Rattle.run.specs.declared.View.{View}
-use Rattle.run.specs.Record.{Storage, register, close, rollBack, uniqueness, finish, isOpen, inObject, innerSize, parentSize}
+use Rattle.run.specs.Record.{Storage, register, close, rollBack, uniqueness, isOpen, inObject, innerSize, parentSize}
 use Rattle.run.specs.Damage.{unchained, fallenEnds, misplacedInner, misplacedParent, damagedParent}
 use Rattle.run.specs.Table.{first, rows, numberOf, held}
 use Rattle.table.specs.declared.numbers.Parent.{Parent}
 use Rattle.table.specs.declared.lookup.Known.{Known}
-use Rattle.table.specs.Decide.{ParentOf, RegistersBy, Undoes, brokenOf, toldBy}
+use Rattle.table.specs.Decide.{ClosesBy, ParentOf, RegistersBy, Undoes, brokenOf, finishBy, toldBy}
 use Rattle.table.proofs.ViewLaws.{both}
 pub use Rattle.table.proofs.ViewLaws.{broken-number, broken-close, damaged-none, entries-within, inner-within, ends-read, range-within, found-before, none-before}
 
@@ -62,14 +62,34 @@ pub close-rows : (v : View) (l : Storage) (s : Search) → brokenOf v l ≡ fals
 unfolding first misplacedInner
 close-rows v l s e q = rw (ends-read v l e, damaged-none v l (fallenEnds v l || misplacedInner v l) e, q .misplacedAny, range-within _ _ _ (entries-within v l e))
 
+-- its answer
+pub closes-by : (v : View) (l : Storage) (s : Search) {n : ℕ} → brokenOf v l ≡ false
+    → Searches (l .entries) (v .inner .entries) (v .counts .entries) (v .inner .object) (v .counts .dictionary .names) (innerSize v) 0 s → n ≡ first (take 3 (rows v l close))
+    → ClosesBy v l (record { number = n; largest = s .largest })
+closes-by v l s e q n = record { number = n; largestId = rw e (rw (range-within _ _ _ (entries-within v l e)) at (q .largestId)) }
+
+-- where number 1's part that every call asks holds
+pub closes-broken : (v : View) (l : Storage) → brokenOf v l ≡ true → ClosesBy v l (record { number = 1; largest = 0 })
+closes-broken v l e = record { number = sym (broken-close v l e); largestId = rw e }
+
 -- ---- the rows of a finish
 
--- what the code answers after `broken`
-pub finish-rows : (v : View) (l : Storage) (out : List ℕ) → brokenOf v l ≡ false
-    → cond (not (intact (v .counts .dictionary) (l .text) (l .ends))) 1 (cond (v .counts .finished) 2 (cond (isOpen v) 4 (cond (eqb (v .counts .value) 0) 15 0)))
-    ≡ first (take 4 (rows v l (finish out)))
-unfolding first
-finish-rows v l out e = rw (ends-read v l e, damaged-none v l (fallenEnds v l) e)
+-- 2, 4 and 15, as the code has them
+abbrev lateOf : View → ℕ
+lateOf v = cond (v .counts .finished) 2 (cond (isOpen v) 4 (cond (eqb (v .counts .value) 0) 15 0))
+
+module _ (v : View) (l : Storage) (out : List ℕ) {n : ℕ} (unbroken : brokenOf v l ≡ false) (by : n ≡ lateOf v) where
+  -- none holds: the name ends are not asked
+  pub finish-none : n ≡ 0 → 0 ≡ finishBy v l out
+  unfolding first
+  finish-none e = let z : eqb (lateOf v) 0 ≡ true = eq-eqb (lateOf v) 0 (sym by ∙ e) in rw (z, unbroken)
+
+  -- one holds: they are
+  pub finish-late : (n ≡ 0 → ⊥) → cond (not (intact (v .counts .dictionary) (l .text) (l .ends))) 1 n ≡ finishBy v l out
+  unfolding first
+  finish-late e =
+      let z : eqb (lateOf v) 0 ≡ false = ne-eqb (lateOf v) 0 (λ q. e (by ∙ q)) in
+      rw (z, ends-read v l unbroken, damaged-none v l (fallenEnds v l) unbroken, by)
 
 -- ---- the rows of a name to register, and its answer
 

@@ -6,7 +6,7 @@ use mathlib.Core.List.{List}
 use Prim.Native.Nat.{ℕ, suc, _+_, _-_, _≤_, min}
 use native.Mathlib.Omega.{arith}
 use lib.Dec.{eqb, leb, ltb}
-use lib.ListN.{length, take}
+use lib.ListN.{drop, length, take}
 use borrow.Author.Tests.{ltb-true, ltb-false, lt-ltb, le-ltb, leb-true, eq-eqb, ne-eqb, not-false}
 use Rattle.encoding.specs.Slices.{counted}
 use Rattle.metadata.specs.Names.{exceeds, intact}
@@ -16,7 +16,7 @@ use Rattle.run.specs.declared.View.{View}
 use Rattle.run.specs.Record.{Storage, Call, register, append, openIn, close, rollBack, uniqueness, finish}
 use Rattle.run.specs.Damage.{overUsed, grown, unchained, fallenEnds, damaged}
 use Rattle.run.specs.Table.{first, rows, numberOf}
-use Rattle.table.specs.Decide.{brokenOf}
+use Rattle.table.specs.Decide.{brokenOf, finishBy}
 
 -- neither test of an `||` that does not hold does
 pub neither : (t u : Bool) → (t || u) ≡ false → (t ≡ false) × (u ≡ false)
@@ -60,10 +60,14 @@ pub broken-close : (v : View) (l : Storage) → brokenOf v l ≡ true → first 
 unfolding first
 broken-close v l e = rw (damaged-broken v l _ e)
 
--- and a finish by its first four
-pub broken-finish : (v : View) (l : Storage) (out : List ℕ) → brokenOf v l ≡ true → first (take 4 (rows v l (finish out))) ≡ 1
+-- and a finish
+pub broken-finish : (v : View) (l : Storage) (out : List ℕ) → brokenOf v l ≡ true → finishBy v l out ≡ 1
 unfolding first
-broken-finish v l out e = rw (damaged-broken v l _ e)
+broken-finish v l out e = rw (damaged-broken v l (fallenEnds v l) e, e) (one (eqb (first (drop 1 (take 4 (rows v l (finish out))))) 0))
+  where
+    one : (t : Bool) → _≡_ {A = ℕ} (cond t 1 1) 1
+    one true = refl
+    one false = refl
 
 -- ---- where it does not
 

@@ -5,19 +5,22 @@ use mathlib.Core.List.{List}
 use mathlib.Core.Option.{Option, none, some}
 use Prim.Native.Nat.{ℕ, _+_}
 use lib.Dec.{eqb, leb, ltb}
+use lib.ListN.{drop, take}
 use Rattle.metadata.specs.Names.{Name}
 use Rattle.metadata.specs.Calls.{Told}
-use Rattle.container.specs.Entries.{roomFor, seek}
+use Rattle.container.specs.Layout.{largest}
+use Rattle.container.specs.Entries.{idsOf, roomFor, seek}
 use Rattle.run.specs.declared.ParentEntry.{ParentEntry}
 use Rattle.run.specs.declared.ParentEntry.the-variants.{New, Replaced}
 use Rattle.run.specs.declared.View.{View}
-use Rattle.run.specs.Record.{Storage, isOpen, inObject, parentSize, parentEntries, uniqueNow}
+use Rattle.run.specs.Record.{Storage, close, finish, isOpen, inObject, innerEntries, parentSize, parentEntries, uniqueNow}
 use Rattle.run.specs.Damage.{misreadBy, overUsed, unchained, misplacedParent, orphaned}
-use Rattle.run.specs.Table.{held, liveUnder, badName, namesFull, secondTop}
+use Rattle.run.specs.Table.{first, rows, held, liveUnder, badName, namesFull, secondTop}
 use Rattle.run.specs.Step.{idFor, placeFor}
 use Rattle.table.specs.declared.Field.{Field}
 use Rattle.table.specs.declared.Decided.{Decided}
 use Rattle.table.specs.declared.Registers.{Registers}
+use Rattle.table.specs.declared.Closing.{Closing}
 use Rattle.table.specs.declared.Undone.{Undone}
 use Rattle.table.specs.declared.numbers.Parent.{Parent}
 use Rattle.table.specs.declared.lookup.Known.{Known}
@@ -62,11 +65,23 @@ pub record Undoes (n : ℕ) (v : View) (l : Storage) (r : Undone) : Type 0 where
   pub number : r .number ≡ n
   pub place : r .place ≡ cond (eqb n 0 && ltb 1 (v .counts .depth)) (placeBack v l (v .inner .parent)) 0
 
--- ---- For the code.
-
 -- number 1's part that every call asks
 abbrev pub brokenOf : View → Storage → Bool
 brokenOf v l = overUsed v l || unchained v
+
+-- a close's by rows 1 to 3, and the largest id of the innermost's entries
+pub record ClosesBy (v : View) (l : Storage) (r : Closing) : Type 0 where
+  pub number : r .number ≡ first (take 3 (rows v l close))
+  pub largestId : r .largest ≡ cond (brokenOf v l) 0 (largest (idsOf (innerEntries v l)))
+
+-- a finish's, by rows 1, 2, 4 and 15; where none of 2, 4 and 15 holds it is number 1 only by what every call asks: the
+-- dictionary asks the name ends itself before it is written
+abbrev pub finishBy : View → Storage → List ℕ → ℕ
+finishBy v l out =
+    let four = take 4 (rows v l (finish out)) in
+    cond (eqb (first (drop 1 four)) 0) (cond (brokenOf v l) 1 0) (first four)
+
+-- ---- For the code.
 
 abbrev pub misnamedBy : Bool → View → Bool
 misnamedBy named v = cond named (not (inObject v)) (inObject v)

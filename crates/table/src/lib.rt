@@ -35,6 +35,12 @@ pub struct Registers {
     pub new: bool,
 }
 
+// A close's number by its first three rows, and the largest id of the innermost's entries, which its header's size comes from.
+pub struct Closing {
+    pub number: u8,
+    pub largest: usize,
+}
+
 // A roll back's number, and then the place of the parent's entry that gets its former offset again.
 pub struct Undone {
     pub place: usize,

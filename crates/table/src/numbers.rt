@@ -1,4 +1,5 @@
 // Each call's number: the first row of document 01's table whose test holds, or 0.
+use crate::Closing;
 use crate::Decided;
 use crate::Field;
 use crate::Registers;
@@ -24,11 +25,11 @@ ghost use mathlib.Core.Path.{_≡_};
 ghost use mathlib.Core.Bool.{Bool};
 ghost use mathlib.Core.List.{List};
 ghost use Prim.Native.Nat.{ℕ, _≤_};
-ghost use lib.ListN.{length, take};
+ghost use lib.ListN.{length};
 ghost use Rattle.container.specs.Entries.{roomFor};
-ghost use Rattle.run.specs.Record.{close, finish, openIn, register, rollBack, uniqueness};
-ghost use Rattle.run.specs.Table.{appendRows, first, numberOf, rows};
-ghost use Rattle.table.specs.Decide.{Decides, ParentOf, appendBy, frontBy, fullBy, openBy, roomBy, RegistersBy, Undoes, decidedOf, nameOf, stored};
+ghost use Rattle.run.specs.Record.{openIn, register, rollBack, uniqueness};
+ghost use Rattle.run.specs.Table.{appendRows, first, numberOf};
+ghost use Rattle.table.specs.Decide.{ClosesBy, Decides, ParentOf, appendBy, finishBy, frontBy, fullBy, openBy, roomBy, RegistersBy, Undoes, decidedOf, nameOf, stored};
 
 pub fn register_number(
     v: View,
@@ -168,12 +169,21 @@ fn front_rows(v: View, number: u8, named: bool, rest: u8) -> u8
     )
 }
 
-// Rows 1 to 3 of a close; row 14 is the header's own.
-pub fn close_number(v: View, value: &[u8], text: &[u8], ends: &[usize], entries: &[usize]) -> u8
-    ensures { λ r. ⌜ r ≡ first (take 3 (rows v (stored (now (value .entry)) (now (text .entry)) (now (ends .entry)) (now (entries .entry))) close)) ⌝ }
+// Rows 1 to 3 of a close; row 14 is the header's own. The pass over the innermost entries gives their largest id too.
+pub fn close_number(
+    v: View,
+    value: &[u8],
+    text: &[u8],
+    ends: &[usize],
+    entries: &[usize],
+) -> Closing
+    ensures { λ r. ⌜ ClosesBy v (stored (now (value .entry)) (now (text .entry)) (now (ends .entry)) (now (entries .entry))) r ⌝ }
 {
     if broken(v, value, text, ends, entries) {
-        return 1;
+        return Closing {
+            number: 1,
+            largest: 0,
+        };
     }
     let c = v.counts;
     let k = v.inner;
@@ -182,20 +192,29 @@ pub fn close_number(v: View, value: &[u8], text: &[u8], ends: &[usize], entries:
     let s = search_entries(entries, k.entries, c.entries, k.object, m.names, size, 0);
     let open = is_open(v);
     let misread = !intact(m, text, ends) | (open & s.misplaced);
-    row(misread, 1, row(c.finished, 2, row(!open, 3, 0)))
+    let n = row(misread, 1, row(c.finished, 2, row(!open, 3, 0)));
+    Closing {
+        number: n,
+        largest: s.largest,
+    }
 }
 
-// Rows 1, 2, 4 and 15 of a finish; row 16 is the dictionary's own.
+// Rows 1, 2, 4 and 15 of a finish. The name ends are asked only where 2, 4 or 15 holds: else the dictionary asks them as it is
+// written, for its rows 1 and 16.
 pub fn finish_number(v: View, value: &[u8], text: &[u8], ends: &[usize], entries: &[usize]) -> u8
-    ensures { λ r. ⌜ ((out : List ℕ) → r ≡ first (take 4 (rows v (stored (now (value .entry)) (now (text .entry)) (now (ends .entry)) (now (entries .entry))) (finish out)))) ⌝ }
+    ensures { λ r. ⌜ ((out : List ℕ) → r ≡ finishBy v (stored (now (value .entry)) (now (text .entry)) (now (ends .entry)) (now (entries .entry))) out) ⌝ }
 {
     if broken(v, value, text, ends, entries) {
         return 1;
     }
     let c = v.counts;
-    let m = c.dictionary;
     let late = row(is_open(v), 4, row(c.value == 0, 15, 0));
-    row(!intact(m, text, ends), 1, row(c.finished, 2, late))
+    let n = row(c.finished, 2, late);
+    if n == 0 {
+        return 0;
+    }
+    let m = c.dictionary;
+    row(!intact(m, text, ends), 1, n)
 }
 
 pub fn rollback_number(

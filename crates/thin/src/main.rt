@@ -1,16 +1,9 @@
-// Document 01's marked outcomes 8 to 12 by the thin calls, each lent a local by its bridge: case number, value, dictionary. A
+// Document 01's marked outcomes 8 to 12 by the thin calls, each lent a local by `lend`: case number, value, dictionary. A
 // refused call prints its number. The storage is not blank, and has room for the calls and no more.
 // The file `stdout` was typed from document 01, not made by this program.
-use builder::Answer;
-use builder::Called;
-use builder::FinishAnswer;
 use builder::new;
-use calls::append_value_lent;
-use calls::close_lent;
-use calls::finish_lent;
-use calls::new_list_lent;
-use calls::new_object_lent;
-use calls::rollback_lent;
+use calls::Call;
+use calls::lend;
 use run::Builder;
 use value::variant::Variant;
 
@@ -27,11 +20,11 @@ fn two_fields() {
     let mut text = [0xEEu8; 2];
     let mut ends = [99usize; 2];
     let mut entries = [99usize; 4];
-    let mut b = object(new(true), &value, &mut text, &mut ends, &mut entries);
+    let mut b = object(new(true), &mut value, &mut text, &mut ends, &mut entries);
     b = field(b, &mut value, &mut text, &mut ends, &mut entries, b"b", 1);
     b = field(b, &mut value, &mut text, &mut ends, &mut entries, b"a", 2);
-    b = closed(b, &mut value, &text, &ends, &mut entries);
-    line(8, b, &value, &text, &ends, &entries);
+    b = closed(b, &mut value, &mut text, &mut ends, &mut entries);
+    line(8, b, &mut value, &mut text, &mut ends, &mut entries);
 }
 
 fn replaced_field() {
@@ -39,11 +32,11 @@ fn replaced_field() {
     let mut text = [0xEEu8; 1];
     let mut ends = [99usize; 1];
     let mut entries = [99usize; 2];
-    let mut b = object(new(false), &value, &mut text, &mut ends, &mut entries);
+    let mut b = object(new(false), &mut value, &mut text, &mut ends, &mut entries);
     b = field(b, &mut value, &mut text, &mut ends, &mut entries, b"a", 1);
     b = field(b, &mut value, &mut text, &mut ends, &mut entries, b"a", 2);
-    b = closed(b, &mut value, &text, &ends, &mut entries);
-    line(9, b, &value, &text, &ends, &entries);
+    b = closed(b, &mut value, &mut text, &mut ends, &mut entries);
+    line(9, b, &mut value, &mut text, &mut ends, &mut entries);
 }
 
 fn replaced_rolled_back() {
@@ -51,11 +44,11 @@ fn replaced_rolled_back() {
     let mut text = [0xEEu8; 1];
     let mut ends = [99usize; 1];
     let mut entries = [99usize; 2];
-    let mut b = object(new(false), &value, &mut text, &mut ends, &mut entries);
+    let mut b = object(new(false), &mut value, &mut text, &mut ends, &mut entries);
     b = field(b, &mut value, &mut text, &mut ends, &mut entries, b"a", 1);
-    b = list_rolled_back(b, &value, &mut text, &mut ends, &mut entries, b"a");
-    b = closed(b, &mut value, &text, &ends, &mut entries);
-    line(10, b, &value, &text, &ends, &entries);
+    b = list_rolled_back(b, &mut value, &mut text, &mut ends, &mut entries, b"a");
+    b = closed(b, &mut value, &mut text, &mut ends, &mut entries);
+    line(10, b, &mut value, &mut text, &mut ends, &mut entries);
 }
 
 fn all_rolled_back() {
@@ -63,18 +56,11 @@ fn all_rolled_back() {
     let mut text = [0xEEu8; 1];
     let mut ends = [99usize; 1];
     let mut entries = [99usize; 2];
-    let mut b = object(new(true), &value, &mut text, &mut ends, &mut entries);
+    let mut b = object(new(true), &mut value, &mut text, &mut ends, &mut entries);
     b = field(b, &mut value, &mut text, &mut ends, &mut entries, b"b", 1);
-    b = rolled_back(b, &value, &text, &ends, &mut entries);
-    b = top(
-        b,
-        &mut value,
-        &mut text,
-        &mut ends,
-        &mut entries,
-        Variant::Null,
-    );
-    line(11, b, &value, &text, &ends, &entries);
+    b = rolled_back(b, &mut value, &mut text, &mut ends, &mut entries);
+    b = null(b, &mut value, &mut text, &mut ends, &mut entries);
+    line(11, b, &mut value, &mut text, &mut ends, &mut entries);
 }
 
 fn new_rolled_back() {
@@ -82,23 +68,32 @@ fn new_rolled_back() {
     let mut text = [0xEEu8; 2];
     let mut ends = [99usize; 2];
     let mut entries = [99usize; 4];
-    let mut b = object(new(true), &value, &mut text, &mut ends, &mut entries);
+    let mut b = object(new(true), &mut value, &mut text, &mut ends, &mut entries);
     b = field(b, &mut value, &mut text, &mut ends, &mut entries, b"b", 1);
-    b = list_rolled_back(b, &value, &mut text, &mut ends, &mut entries, b"a");
+    b = list_rolled_back(b, &mut value, &mut text, &mut ends, &mut entries, b"a");
     b = field(b, &mut value, &mut text, &mut ends, &mut entries, b"c", 2);
-    b = closed(b, &mut value, &text, &ends, &mut entries);
-    line(12, b, &value, &text, &ends, &entries);
+    b = closed(b, &mut value, &mut text, &mut ends, &mut entries);
+    line(12, b, &mut value, &mut text, &mut ends, &mut entries);
 }
 
-fn top(
+// A null at the top.
+fn null(
     b: Builder,
     value: &mut [u8],
     text: &mut [u8],
     ends: &mut [usize],
     entries: &mut [usize],
-    x: Variant,
 ) -> Builder {
-    after(append_value_lent(b, value, text, ends, entries, false, b"", x))
+    after(
+        b,
+        Call::AppendValue(Variant::Null),
+        value,
+        text,
+        ends,
+        entries,
+        false,
+        b"",
+    )
 }
 
 // An int8 field.
@@ -112,60 +107,91 @@ fn field(
     n: i8,
 ) -> Builder {
     let x = Variant::Int8(n);
-    after(append_value_lent(b, value, text, ends, entries, true, name, x))
+    after(
+        b,
+        Call::AppendValue(x),
+        value,
+        text,
+        ends,
+        entries,
+        true,
+        name,
+    )
 }
 
 fn object(
     b: Builder,
-    value: &[u8],
+    value: &mut [u8],
     text: &mut [u8],
     ends: &mut [usize],
     entries: &mut [usize],
 ) -> Builder {
-    after(new_object_lent(b, value, text, ends, entries, false, b""))
+    after(b, Call::NewObject, value, text, ends, entries, false, b"")
 }
 
 fn closed(
     b: Builder,
     value: &mut [u8],
-    text: &[u8],
-    ends: &[usize],
+    text: &mut [u8],
+    ends: &mut [usize],
     entries: &mut [usize],
 ) -> Builder {
-    after(close_lent(b, value, text, ends, entries))
+    after(b, Call::Close, value, text, ends, entries, false, b"")
 }
 
 fn rolled_back(
     b: Builder,
-    value: &[u8],
-    text: &[u8],
-    ends: &[usize],
+    value: &mut [u8],
+    text: &mut [u8],
+    ends: &mut [usize],
     entries: &mut [usize],
 ) -> Builder {
-    after(rollback_lent(b, value, text, ends, entries))
+    after(b, Call::Rollback, value, text, ends, entries, false, b"")
 }
 
 // A list opened under a name and rolled back.
 fn list_rolled_back(
     b: Builder,
-    value: &[u8],
+    value: &mut [u8],
     text: &mut [u8],
     ends: &mut [usize],
     entries: &mut [usize],
     name: &[u8],
 ) -> Builder {
-    let opened = after(new_list_lent(b, value, text, ends, entries, true, name));
+    let opened = after(b, Call::NewList, value, text, ends, entries, true, name);
     rolled_back(opened, value, text, ends, entries)
 }
 
-// The builder after a call.
-fn after(called: Called) -> Builder {
-    let answer = called.answer;
-    match answer {
-        Answer::Done => {}
-        Answer::Refused(number) => refused(number),
+// The builder after a call that has no bytes, UUID or output.
+fn after(
+    b: Builder,
+    call: Call,
+    value: &mut [u8],
+    text: &mut [u8],
+    ends: &mut [usize],
+    entries: &mut [usize],
+    named: bool,
+    name: &[u8],
+) -> Builder {
+    let uuid = [0u8; 16];
+    let mut out = [0xEEu8; 1];
+    let r = lend(
+        b,
+        call,
+        value,
+        text,
+        ends,
+        entries,
+        named,
+        name,
+        b"",
+        uuid,
+        &mut out,
+    );
+    if r.number != 0 {
+        refused(r.number);
     }
-    called.builder
+    r.builder
 }
 
 fn refused(number: u8) {
@@ -174,19 +200,37 @@ fn refused(number: u8) {
     show::text(b"\n");
 }
 
-fn line(case: usize, b: Builder, value: &[u8], text: &[u8], ends: &[usize], entries: &[usize]) {
+fn line(
+    case: usize,
+    b: Builder,
+    value: &mut [u8],
+    text: &mut [u8],
+    ends: &mut [usize],
+    entries: &mut [usize],
+) {
+    let uuid = [0u8; 16];
     let mut out = [0xEEu8; 7];
-    let finished = finish_lent(b, value, text, ends, entries, &mut out);
-    let answer = finished.answer;
-    match answer {
-        FinishAnswer::Written(n) => {
-            show::number(case);
-            show::text(b" ");
-            show::hex(value, finished.builder.counts.value);
-            show::text(b" ");
-            show::hex(&out, n);
-            show::text(b"\n");
-        }
-        FinishAnswer::Refused(number) => refused(number),
+    let r = lend(
+        b,
+        Call::Finish,
+        value,
+        text,
+        ends,
+        entries,
+        false,
+        b"",
+        b"",
+        uuid,
+        &mut out,
+    );
+    if r.number != 0 {
+        refused(r.number);
+        return;
     }
+    show::number(case);
+    show::text(b" ");
+    show::hex(value, r.builder.counts.value);
+    show::text(b" ");
+    show::hex(&out, r.written);
+    show::text(b"\n");
 }

@@ -1,11 +1,11 @@
--- Rows 1, 2, 4 and 15 first; row 16 is the dictionary's.
+-- Rows 2, 4 and 15 first, and row 1 with them; else the dictionary's answer.
 use borrow.Author.Needs.{needs}
-use Rattle.pieces.proofs.FinishLaws.{Finishable, ends-none, ends-written, finishable, finishes-early, undamaged}
+use Rattle.pieces.proofs.FinishLaws.{Finishable, ends-damaged, ends-full, ends-written, finishable, finishes-early}
 use Rattle.table.specs.Decide.{stored}
 use Rattle.pieces.proofs.dictionary.finish_over.Statement.{statement}
 use Rattle.pieces.proofs.dictionary.finish_over.Tie as tie
 
--- rows 1, 2, 4 and 15 do not hold
+-- none of these holds
 left : (c : tie.Else1) → let a = c .before .before .before .before .before .before .before .before .args in Finishable (a .v) (stored (a .value .now) (a .text .now) (a .ends .now) (a .entries .now)) (a .out .now)
 left c = finishable (c .before .before .finish-number .ensures (c .before .before .before .before .before .before .before .before .args .out .now)) (c .if1 .left)
 
@@ -13,10 +13,10 @@ returns : tie.Need-returns
 returns c = finishes-early (c .before .before .finish-number .ensures (c .before .before .before .before .before .before .before .before .args .out .now)) (c .if1 .taken)
 
 returns-2 : tie.Need-returns-2
-returns-2 c = let h = c .before .before .before .before in absurd (undamaged (left (h .before .before .before)) (h .finish .ensures) (c .enum-told .given .1))
+returns-2 c = let h = c .before .before .before .before in ends-damaged (left (h .before .before .before)) (h .finish .ensures) (c .enum-told .given .1)
 
 returns-3 : tie.Need-returns-3
-returns-3 c = let h = c .before .before .before .before in ends-none (left (h .before .before .before)) (h .finish .ensures) (c .enum-told2 .given .1)
+returns-3 c = let h = c .before .before .before .before in ends-full (left (h .before .before .before)) (h .finish .ensures) (c .enum-told2 .given .1)
 
 returns-4 : tie.Need-returns-4
 returns-4 c =

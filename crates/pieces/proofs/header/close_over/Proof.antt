@@ -5,14 +5,17 @@ use Rattle.pieces.proofs.header.close_over.Statement.{statement}
 use Rattle.pieces.proofs.header.close_over.Tie as tie
 
 -- none of the first three rows holds
-left : (c : tie.Else1) → let a = c .before .before .before .before .before .before .before .before .before .args in Closable (a .v) (stored (a .value .now) (a .text .now) (a .ends .now) (a .entries .now))
+left : (c : tie.Else1)
+    → let d = c .before .before in
+    let a = d .before .before .before .before .before .before .before .args in
+    Closable (a .v) (stored (a .value .now) (a .text .now) (a .ends .now) (a .entries .now)) (d .close-number .result .largest)
 left c = closable (c .before .before .close-number .ensures) (c .if1 .left)
 
 returns : tie.Need-returns
 returns c = closes-early (c .before .before .close-number .ensures) (c .if1 .taken)
 
-sub-t21 : tie.Need-sub-t21
-sub-t21 c = left (c .before .before .before .before .before .before .before .before .before .before .before .before) .depth
+put-header-requires : tie.Need-put-header-requires
+put-header-requires c κs = left (c .before .before) .most
 
 returns-2 : tie.Need-returns-2
 returns-2 c =
@@ -34,9 +37,9 @@ close-over-spec =
     (λ c. search needs)
     (λ c. search needs)
     returns
-    (λ c κs. search needs)
+    put-header-requires
     (λ c. search needs)
-    sub-t21
+    (λ c. left (c .before .before .before .before .before .before .before .before .before .before .before .before) .depth)
     (λ c. search needs)
     (λ c. search needs)
     (λ c. search needs)

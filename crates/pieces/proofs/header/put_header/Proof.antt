@@ -4,7 +4,10 @@ use Rattle.pieces.proofs.header.put_header.Statement.{statement}
 use Rattle.pieces.proofs.header.put_header.Tie as tie
 
 returns : tie.Need-returns
-returns c = let o = c .before .before .before .before in fronts-object (o .before .before .before .before .if1 .taken) (o .close-object .ensures)
+returns c =
+    let o = c .before .before .before .before in
+    let t = o .before .before .before .before in
+    fronts-object (t .if1 .taken) (t .before .before .before .before .before .pre) (o .close-object .ensures)
 
 returns-2 : tie.Need-returns-2
 returns-2 c = fronts-list (c .before .before .before .before .before .if1 .left) (c .before .before .close-list .ensures)

@@ -1,0 +1,218 @@
+use crate::variant::Numbers;
+use crate::{sys, Refusal, Variant, WORDS};
+use std::ops::{Deref, DerefMut};
+
+/// One of the four storages: the builder's own, or lent.
+pub enum Buffer<'a, T> {
+    Owned(Vec<T>),
+    Lent(&'a mut [T]),
+}
+
+/// The four storages as slices: value bytes, name bytes, the end of each name, and entries of two numbers, id and offset.
+pub struct Storage<'b> {
+    pub value: &'b mut [u8],
+    pub text: &'b mut [u8],
+    pub ends: &'b mut [usize],
+    pub entries: &'b mut [usize],
+}
+
+/// A builder of one Variant value and its dictionary, over storage of its own or lent.
+///
+/// Storage does not grow: a call for which it is too small is refused with 12 (names), 13 (entries) or 14 (value bytes), and may be
+/// made again after `grow`. A refused call changes nothing. A name is `Some` in an object and `None` elsewhere.
+pub struct VariantBuilder<'a> {
+    words: [usize; WORDS],
+    value: Buffer<'a, u8>,
+    text: Buffer<'a, u8>,
+    ends: Buffer<'a, usize>,
+    entries: Buffer<'a, usize>,
+}
+
+/// A linked call over the builder's words and storage, then the arguments given.
+macro_rules! call {
+    ($b:ident . $f:ident ($($x:expr),*)) => {{
+        let (value, text, ends, entries) = (&mut *$b.value, &mut *$b.text, &mut *$b.ends, &mut *$b.entries);
+        // SAFETY: the pointers are those of slices and arrays borrowed here, the written ones mutably, so apart from all others
+        let number = unsafe {
+            sys::$f(
+                &mut $b.words,
+                value.as_mut_ptr(), value.len(),
+                text.as_mut_ptr(), text.len(),
+                ends.as_mut_ptr(), ends.len(),
+                entries.as_mut_ptr(), entries.len(),
+                $($x),*
+            )
+        };
+        answer(number)
+    }};
+}
+
+fn answer(number: u8) -> Result<(), Refusal> {
+    Refusal::of(number).map_or(Ok(()), Err)
+}
+
+impl VariantBuilder<'static> {
+    /// With room for 4096 value bytes, 64 names of 1024 bytes together, and 128 entries.
+    pub fn new() -> Self {
+        Self::with_capacity(4096, 1024, 64, 128)
+    }
+
+    /// With room for so many value bytes, name bytes, names, and entries of the containers open at one time.
+    pub fn with_capacity(value: usize, text: usize, names: usize, entries: usize) -> Self {
+        Self::lend(vec![0; value], vec![0; text], vec![0; names], vec![0; 2 * entries])
+    }
+
+    /// Larger storage of the builder's own, with what it holds; none gets smaller.
+    pub fn grow(&mut self, value: usize, text: usize, names: usize, entries: usize) {
+        self.value.grow(value);
+        self.text.grow(text);
+        self.ends.grow(names);
+        self.entries.grow(2 * entries);
+    }
+}
+
+impl Default for VariantBuilder<'static> {
+    fn default() -> Self {
+        Self::new()
+    }
+}
+
+impl<'a> VariantBuilder<'a> {
+    /// Over lent storage, of any size and content: value bytes, name bytes, a number for each name, two numbers for each entry.
+    pub fn lend(
+        value: impl Into<Buffer<'a, u8>>,
+        text: impl Into<Buffer<'a, u8>>,
+        ends: impl Into<Buffer<'a, usize>>,
+        entries: impl Into<Buffer<'a, usize>>,
+    ) -> Self {
+        let (value, text, ends, entries) = (value.into(), text.into(), ends.into(), entries.into());
+        let mut builder = VariantBuilder { words: [0; WORDS], value, text, ends, entries };
+        builder.reset(false);
+        builder
+    }
+
+    /// A fresh builder over the same storage; objects start with this uniqueness mark (`new` and `lend`: off).
+    pub fn reset(&mut self, unique: bool) {
+        // SAFETY: the pointer is a mutable borrow's
+        unsafe { sys::variant_new(&mut self.words, unique) }
+    }
+
+    /// A name given beforehand, at the top level.
+    pub fn add_field_name(&mut self, name: &[u8]) -> Result<(), Refusal> {
+        call!(self.variant_add_field_name(name.as_ptr(), name.len()))
+    }
+
+    /// A scalar: the top value, or the innermost container's next.
+    pub fn append_value<'v>(&mut self, name: Option<&[u8]>, value: impl Into<Variant<'v>>) -> Result<(), Refusal> {
+        let (named, name) = (name.is_some(), name.unwrap_or_default());
+        let (at, len) = (name.as_ptr(), name.len());
+        match value.into().numbers() {
+            Numbers::Fixed { code, z, low, scale } => {
+                call!(self.variant_append_value(named, at, len, code, z, low, scale))
+            }
+            Numbers::Bytes(kind, bytes) => {
+                call!(self.variant_append_bytes(named, at, len, kind, bytes.as_ptr(), bytes.len()))
+            }
+            Numbers::Uuid(uuid) => call!(self.variant_append_uuid(named, at, len, &uuid)),
+        }
+    }
+
+    /// A list, open until it is closed or rolled back.
+    pub fn new_list(&mut self, name: Option<&[u8]>) -> Result<(), Refusal> {
+        let (named, name) = (name.is_some(), name.unwrap_or_default());
+        call!(self.variant_new_list(named, name.as_ptr(), name.len()))
+    }
+
+    /// An object, open until it is closed or rolled back.
+    pub fn new_object(&mut self, name: Option<&[u8]>) -> Result<(), Refusal> {
+        let (named, name) = (name.is_some(), name.unwrap_or_default());
+        call!(self.variant_new_object(named, name.as_ptr(), name.len()))
+    }
+
+    /// The innermost container closed: `finish` of the Rust crate's `ListBuilder` and `ObjectBuilder`.
+    pub fn close(&mut self) -> Result<(), Refusal> {
+        call!(self.variant_close())
+    }
+
+    /// The innermost container taken back, with its name if that was new: what the Rust crate does on `drop`.
+    pub fn rollback(&mut self) -> Result<(), Refusal> {
+        call!(self.variant_rollback())
+    }
+
+    /// The uniqueness mark of the innermost object, for later calls.
+    pub fn with_validate_unique_fields(&mut self, unique: bool) -> Result<(), Refusal> {
+        call!(self.variant_with_validate_unique_fields(unique))
+    }
+
+    /// The dictionary's bytes into the start of `out`; how many. The value's are `value()`. Later calls are refused until `reset`.
+    pub fn finish(&mut self, out: &mut [u8]) -> Result<usize, Refusal> {
+        let mut written = 0;
+        call!(self.variant_finish(out.as_mut_ptr(), out.len(), &mut written))?;
+        Ok(written)
+    }
+
+    /// The value bytes written so far: after `finish`, the value.
+    pub fn value(&self) -> &[u8] {
+        &self.value[..self.words[0].min(self.value.len())]
+    }
+
+    /// The state words (`crates/ffi/specs/Words.antt`).
+    pub fn words(&self) -> &[usize; WORDS] {
+        &self.words
+    }
+
+    /// The state words, to be changed at will: any words are a builder, and a call on those that fit no run is refused with 1.
+    pub fn words_mut(&mut self) -> &mut [usize; WORDS] {
+        &mut self.words
+    }
+
+    /// The storage, to be changed at will, as the words.
+    pub fn storage_mut(&mut self) -> Storage<'_> {
+        Storage { value: &mut self.value, text: &mut self.text, ends: &mut self.ends, entries: &mut self.entries }
+    }
+}
+
+impl<T: Clone + Default> Buffer<'_, T> {
+    fn grow(&mut self, len: usize) {
+        if let Buffer::Owned(v) = self {
+            v.resize(len.max(v.len()), T::default());
+        }
+    }
+}
+
+impl<T> From<Vec<T>> for Buffer<'_, T> {
+    fn from(v: Vec<T>) -> Self {
+        Buffer::Owned(v)
+    }
+}
+
+impl<'a, T> From<&'a mut [T]> for Buffer<'a, T> {
+    fn from(s: &'a mut [T]) -> Self {
+        Buffer::Lent(s)
+    }
+}
+
+impl<'a, T, const N: usize> From<&'a mut [T; N]> for Buffer<'a, T> {
+    fn from(s: &'a mut [T; N]) -> Self {
+        Buffer::Lent(s)
+    }
+}
+
+impl<T> Deref for Buffer<'_, T> {
+    type Target = [T];
+    fn deref(&self) -> &[T] {
+        match self {
+            Buffer::Owned(v) => v,
+            Buffer::Lent(s) => s,
+        }
+    }
+}
+
+impl<T> DerefMut for Buffer<'_, T> {
+    fn deref_mut(&mut self) -> &mut [T] {
+        match self {
+            Buffer::Owned(v) => v,
+            Buffer::Lent(s) => s,
+        }
+    }
+}

@@ -1,0 +1,31 @@
+//! Variant values of Apache Parquet, written by proved code: safe Rust calls over the crate `ffi` of this repository.
+//!
+//! ```
+//! use variant_writer::{Variant, VariantBuilder};
+//!
+//! let mut builder = VariantBuilder::new();
+//! builder.new_object(None)?;
+//! builder.append_value(Some(b"b"), 1i8)?;
+//! builder.append_value(Some(b"a"), Variant::Int8(2))?;
+//! builder.close()?;
+//! let mut dictionary = [0; 64];
+//! let n = builder.finish(&mut dictionary)?;
+//! assert_eq!(builder.value(), [2, 2, 1, 0, 2, 0, 4, 12, 1, 12, 2]);
+//! assert_eq!(dictionary[..n], [1, 2, 0, 1, 2, b'b', b'a']);
+//! # Ok::<(), variant_writer::Refusal>(())
+//! ```
+//!
+//! Proved is what the linked calls do (`crates/ffi`); this crate only hands slices to them, and `listing` is for people to read.
+mod builder;
+mod listing;
+mod refusal;
+pub mod sys;
+mod variant;
+
+pub use builder::{Buffer, Storage, VariantBuilder};
+pub use listing::listing;
+pub use refusal::Refusal;
+pub use variant::Variant;
+
+/// How many state words a builder has: 8 counts, and 64 containers of 9 words (`crates/ffi/specs/Words.antt`).
+pub const WORDS: usize = 584;

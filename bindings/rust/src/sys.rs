@@ -1,0 +1,118 @@
+//! The calls of the crate `ffi` as they are linked: declarations only.
+//!
+//! # Safety
+//!
+//! A call demands nothing of what the words and the storage hold, and is proved for all of it. The caller owes what no proof of it
+//! can see: each pointer is valid for the call, for as many items as the length behind it says (the words: `WORDS`; a UUID: 16), for
+//! writing where it is `*mut`; and what is written overlaps nothing else that the call is given.
+//!
+//! An answer is 0, or document 01's number, and then all is as it was.
+use crate::WORDS;
+
+pub type Words = *mut [usize; WORDS];
+
+#[rustfmt::skip]
+extern "C" {
+    pub fn variant_new(words: Words, unique: bool);
+
+    pub fn variant_add_field_name(
+        words: Words,
+        value: *const u8, value_len: usize,
+        text: *mut u8, text_len: usize,
+        ends: *mut usize, ends_len: usize,
+        entries: *const usize, entries_len: usize,
+        name: *const u8, name_len: usize,
+    ) -> u8;
+
+    pub fn variant_close(
+        words: Words,
+        value: *mut u8, value_len: usize,
+        text: *const u8, text_len: usize,
+        ends: *const usize, ends_len: usize,
+        entries: *mut usize, entries_len: usize,
+    ) -> u8;
+
+    pub fn variant_rollback(
+        words: Words,
+        value: *const u8, value_len: usize,
+        text: *const u8, text_len: usize,
+        ends: *const usize, ends_len: usize,
+        entries: *mut usize, entries_len: usize,
+    ) -> u8;
+
+    pub fn variant_append_value(
+        words: Words,
+        value: *mut u8, value_len: usize,
+        text: *mut u8, text_len: usize,
+        ends: *mut usize, ends_len: usize,
+        entries: *mut usize, entries_len: usize,
+        named: bool,
+        name: *const u8, name_len: usize,
+        code: u8,
+        z: i64,
+        low: u64,
+        scale: u8,
+    ) -> u8;
+
+    pub fn variant_append_bytes(
+        words: Words,
+        value: *mut u8, value_len: usize,
+        text: *mut u8, text_len: usize,
+        ends: *mut usize, ends_len: usize,
+        entries: *mut usize, entries_len: usize,
+        named: bool,
+        name: *const u8, name_len: usize,
+        kind: u8,
+        bytes: *const u8, bytes_len: usize,
+    ) -> u8;
+
+    pub fn variant_append_uuid(
+        words: Words,
+        value: *mut u8, value_len: usize,
+        text: *mut u8, text_len: usize,
+        ends: *mut usize, ends_len: usize,
+        entries: *mut usize, entries_len: usize,
+        named: bool,
+        name: *const u8, name_len: usize,
+        uuid: *const [u8; 16],
+    ) -> u8;
+
+    pub fn variant_new_list(
+        words: Words,
+        value: *const u8, value_len: usize,
+        text: *mut u8, text_len: usize,
+        ends: *mut usize, ends_len: usize,
+        entries: *mut usize, entries_len: usize,
+        named: bool,
+        name: *const u8, name_len: usize,
+    ) -> u8;
+
+    pub fn variant_new_object(
+        words: Words,
+        value: *const u8, value_len: usize,
+        text: *mut u8, text_len: usize,
+        ends: *mut usize, ends_len: usize,
+        entries: *mut usize, entries_len: usize,
+        named: bool,
+        name: *const u8, name_len: usize,
+    ) -> u8;
+
+    pub fn variant_with_validate_unique_fields(
+        words: Words,
+        value: *const u8, value_len: usize,
+        text: *const u8, text_len: usize,
+        ends: *const usize, ends_len: usize,
+        entries: *const usize, entries_len: usize,
+        unique: bool,
+    ) -> u8;
+
+    pub fn variant_finish(
+        words: Words,
+        value: *const u8, value_len: usize,
+        text: *const u8, text_len: usize,
+        ends: *const usize, ends_len: usize,
+        entries: *const usize, entries_len: usize,
+        out: *mut u8, out_len: usize,
+        written: *mut usize,
+    ) -> u8;
+}

@@ -1,0 +1,147 @@
+//! Each number of document 01's table by a short run; a refused call leaves words, storage and output as they were.
+use variant_writer::{Refusal, Variant, VariantBuilder};
+
+/// The call is refused with that number and changes nothing.
+fn refused(number: u8, b: &mut VariantBuilder, call: impl FnOnce(&mut VariantBuilder) -> Result<(), Refusal>) {
+    let before = all(b);
+    let refusal = call(b).unwrap_err();
+    assert_eq!(refusal.number(), number);
+    assert!(refusal.to_string().starts_with(&format!("refused {number}: ")));
+    assert!(all(b) == before, "{refusal} changed something");
+}
+
+fn all(b: &mut VariantBuilder) -> ([Vec<usize>; 3], [Vec<u8>; 2]) {
+    let words = b.words().to_vec();
+    let s = b.storage_mut();
+    ([words, s.ends.to_vec(), s.entries.to_vec()], [s.value.to_vec(), s.text.to_vec()])
+}
+
+fn finish(b: &mut VariantBuilder, size: usize) -> Result<(), Refusal> {
+    let mut out = vec![7; size];
+    let answer = b.finish(&mut out).map(|_| ());
+    assert!(answer.is_ok() || out == vec![7; size]);
+    answer
+}
+
+fn object(unique: bool) -> VariantBuilder<'static> {
+    let mut b = VariantBuilder::new();
+    b.reset(unique);
+    b.new_object(None).unwrap();
+    b
+}
+
+#[test]
+fn foreign_words() {
+    let mut b = VariantBuilder::new();
+    b.words_mut().fill(usize::MAX);
+    refused(1, &mut b, |b| b.add_field_name(b"a"));
+    refused(1, &mut b, |b| b.append_value(None, ()));
+    refused(1, &mut b, |b| b.append_value(None, "a"));
+    refused(1, &mut b, |b| b.append_value(None, Variant::Uuid([0; 16])));
+    refused(1, &mut b, |b| b.new_list(None));
+    refused(1, &mut b, |b| b.new_object(None));
+    refused(1, &mut b, |b| b.close());
+    refused(1, &mut b, |b| b.rollback());
+    refused(1, &mut b, |b| b.with_validate_unique_fields(true));
+    refused(1, &mut b, |b| finish(b, 9));
+    assert_eq!(b.value().len(), 4096);
+}
+
+#[test]
+fn foreign_storage() {
+    let mut b = object(false);
+    b.append_value(Some(b"a"), ()).unwrap();
+    b.storage_mut().ends[0] = 2;
+    refused(1, &mut b, |b| b.close());
+    b.storage_mut().ends[0] = 1;
+    b.close().unwrap();
+}
+
+#[test]
+fn order_of_calls() {
+    let mut b = VariantBuilder::new();
+    refused(3, &mut b, |b| b.close());
+    refused(3, &mut b, |b| b.rollback());
+    refused(3, &mut b, |b| b.with_validate_unique_fields(true));
+    refused(5, &mut b, |b| b.append_value(Some(b"a"), ()));
+    refused(15, &mut b, |b| finish(b, 9));
+    b.new_list(None).unwrap();
+    refused(3, &mut b, |b| b.with_validate_unique_fields(true));
+    refused(4, &mut b, |b| b.add_field_name(b"a"));
+    refused(4, &mut b, |b| finish(b, 9));
+    refused(5, &mut b, |b| b.new_list(Some(b"a")));
+    b.close().unwrap();
+    refused(6, &mut b, |b| b.append_value(None, ()));
+    refused(6, &mut b, |b| b.new_object(None));
+    refused(16, &mut b, |b| finish(b, 2));
+    finish(&mut b, 3).unwrap();
+    refused(2, &mut b, |b| b.append_value(None, ()));
+    refused(2, &mut b, |b| finish(b, 9));
+}
+
+#[test]
+fn arguments() {
+    let mut b = object(true);
+    refused(5, &mut b, |b| b.append_value(None, ()));
+    for x in [
+        Variant::Time(-1),
+        Variant::Time(86_400_000_000),
+        Variant::Decimal4 { integer: 0, scale: 39 },
+        Variant::Decimal4 { integer: 1_000_000_000, scale: 0 },
+        Variant::Decimal8 { integer: -1_000_000_000_000_000_000, scale: 0 },
+        Variant::Decimal16 { integer: 10i128.pow(38), scale: 0 },
+        Variant::Decimal16 { integer: i128::MIN, scale: 0 },
+    ] {
+        refused(7, &mut b, |b| b.append_value(Some(b"a"), x));
+    }
+    for x in [Variant::Text(b"\xff"), Variant::String(b"\xc3"), Variant::ShortString(&[97; 64])] {
+        refused(8, &mut b, |b| b.append_value(Some(b"a"), x));
+    }
+    refused(9, &mut b, |b| b.append_value(Some(b"\xed\xa0\x80"), ()));
+    b.append_value(Some(b"a"), ()).unwrap();
+    refused(10, &mut b, |b| b.append_value(Some(b"a"), ()));
+    refused(10, &mut b, |b| b.new_list(Some(b"a")));
+    b.with_validate_unique_fields(false).unwrap();
+    b.append_value(Some(b"a"), ()).unwrap();
+    b.close().unwrap();
+    assert_eq!(b.value(), [2, 1, 0, 1, 2, 0, 0]);
+}
+
+#[test]
+fn depth() {
+    let mut b = VariantBuilder::new();
+    for _ in 0..64 {
+        b.new_list(None).unwrap();
+    }
+    refused(11, &mut b, |b| b.new_list(None));
+    for _ in 0..64 {
+        b.close().unwrap();
+    }
+    finish(&mut b, 3).unwrap();
+}
+
+#[test]
+fn full_and_grown() {
+    let mut b = VariantBuilder::with_capacity(0, 1, 1, 1);
+    refused(14, &mut b, |b| b.append_value(None, ()));
+    refused(12, &mut b, |b| b.add_field_name(b"ab"));
+    b.add_field_name(b"a").unwrap();
+    refused(12, &mut b, |b| b.add_field_name(b""));
+    b.new_object(None).unwrap();
+    b.new_list(Some(b"a")).unwrap();
+    refused(13, &mut b, |b| b.append_value(None, ()));
+    refused(14, &mut b, |b| b.close());
+    b.grow(100, 0, 0, 2);
+    b.append_value(None, ()).unwrap();
+    b.close().unwrap();
+    b.close().unwrap();
+    finish(&mut b, 9).unwrap();
+    assert_eq!(b.value(), [2, 1, 0, 0, 5, 3, 1, 0, 1, 0]);
+}
+
+#[test]
+fn numbers_and_refusals() {
+    for number in 0..=255 {
+        assert_eq!(Refusal::of(number).map(Refusal::number), (1..=16).contains(&number).then_some(number));
+    }
+}

@@ -1,0 +1,104 @@
+//! The program variant-script: answers, the listing, bad lines.
+use std::io::Write;
+use std::process::{Command, Stdio};
+
+/// Standard output, standard error and the exit status.
+fn run(words: &[&str], script: &str) -> (String, String, i32) {
+    let mut child = Command::new(env!("CARGO_BIN_EXE_variant-script"))
+        .args(words)
+        .stdin(Stdio::piped())
+        .stdout(Stdio::piped())
+        .stderr(Stdio::piped())
+        .spawn()
+        .unwrap();
+    child.stdin.take().unwrap().write_all(script.as_bytes()).unwrap();
+    let out = child.wait_with_output().unwrap();
+    let text = |b| String::from_utf8(b).unwrap();
+    (text(out.stdout), text(out.stderr), out.status.code().unwrap())
+}
+
+fn answers(script: &str) -> String {
+    let (out, err, status) = run(&[], script);
+    assert_eq!((&err[..], status), ("", 0));
+    out
+}
+
+#[test]
+fn calls() {
+    let script = "# outcome 8\nnew\nopen object\nappend name=62 int8 1\nappend name=61 int8 2 # a\n\nclose\nfinish\nfinish\n";
+    assert_eq!(answers(script), "new\nok\nok\nok\nok\nok value=020201000200040c010c02 dict=01020001026261\nrefused 2\n");
+    let script = "new fill=18446744073709551615 value=3 namebytes=9\nregister 3x6162\nregister\nappend - short 2x63\ndumpvalue\nfinish";
+    assert_eq!(answers(script), "new\nok\nok\nok\nvalue 096363\nok value=096363 dict=0102000606616261626162\n");
+}
+
+#[test]
+fn pokes() {
+    let script = "new\npoke container 0 all 0 0 0 0 object 1 replaced 7 8\npoke open 1\npoke nameend 0 1\npoke namebytes 0 61\n\
+        poke names_used 1\npoke namebytes_used 1\npoke entry 0 0 0\npoke entries_used 1\ndump\nappend name=61 null\npoke open 65\ndump\nclose\n";
+    let answer = answers(script);
+    let lines: Vec<&str> = answer.lines().skip(9).collect();
+    let counts = "value_used=0 names_used=1 namebytes_used=1 entries_used=1";
+    assert_eq!(lines[0], format!("dump {counts} open=1 unique=0 sorted=0 finished=0 c0=object:0,0,0,0:1:- value= names=61 e0=0@0"));
+    assert_eq!(lines[1], "refused 10");
+    assert!(lines[3].starts_with(&format!("dump {counts} open=65 ")) && lines[3].ends_with(" broken"));
+    assert_eq!(lines[4], "refused 1");
+}
+
+#[test]
+fn scan_listed() {
+    let script = concat!(env!("CARGO_MANIFEST_DIR"), "/scan.script");
+    let (plain, _, _) = run(&[script], "");
+    let (listed, _, status) = run(&["--listing", script], "");
+    assert_eq!((status, plain.lines().count()), (0, 16));
+    let finished = plain.lines().last().unwrap().replace("ok value=", "value ").replace(" dict=", "\ndictionary ");
+    assert!(include_str!("../../../crates/scan/stdout").ends_with(&(finished + "\n")));
+    let listing = listed.strip_prefix(&plain).unwrap();
+    assert!(listing.contains("\n  weight: decimal4 412.5\n"));
+    assert!(listing.contains("\n  scanned: timestamp 2026-03-05 07:42:18.250000 UTC\n"));
+    assert!(listing.contains("\n  readings: list of 3\n    int16 4131\n"));
+}
+
+/// One call that is none a line.
+const BAD: &str = "fnord
+append
+append -
+append int8 128
+append int8
+append dec4 256 1
+append float 100000000
+append text 6
+append text 6g
+append uuid 00
+append name=6 null
+open
+open 61 list
+open tree
+close 1
+unique
+unique 2
+finish 3
+finish out=-1
+finish in=3
+new size=3
+new value=x
+new value=18446744073709551615
+poke
+poke open
+poke container 64 value 0
+poke container 0 kind tree
+poke value 4096 00
+poke nameend 64 0
+poke entry 128 0 0
+dump 1";
+
+#[test]
+fn bad_lines() {
+    for bad in BAD.lines() {
+        let (out, err, status) = run(&[], &format!("new\nappend null\n{bad}\nclose\n"));
+        assert_eq!((&out[..], status), ("new\nok\n", 2), "{bad}");
+        assert!(err.starts_with("variant-script: line 3: expected "), "{bad}: {err}");
+    }
+    assert_eq!(run(&[], "close\n").2, 2);
+    assert_eq!(run(&["--other"], "").2, 2);
+    assert_eq!(run(&["no such file"], "").2, 2);
+}

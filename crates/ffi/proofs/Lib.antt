@@ -1,0 +1,4 @@
+-- The laws of the state words, of a scalar's numbers, and of a call over words from its piece.
+pub mod WordLaws
+pub mod ScalarLaws
+pub mod CallLaws

@@ -1,0 +1,268 @@
+// The word calls. That the slices are valid and do not overlap is the caller's, and outside the proof.
+use crate::WORDS;
+use crate::scalars::kind_of;
+use crate::scalars::variant_of;
+use crate::words::moved;
+use crate::words::put_container;
+use crate::words::put_counts;
+use crate::words::view_of;
+use pieces::append_bytes_over;
+use pieces::append_uuid_over;
+use pieces::append_value_over;
+use pieces::close_over;
+use pieces::finish_over;
+use pieces::open_over;
+use pieces::register;
+use pieces::rollback_over;
+use run::Container;
+use run::Counts;
+use table::unique_number;
+ghost use mathlib.Core.Path.{_≡_};
+ghost use mathlib.Core.Bool.{false, true};
+ghost use Rattle.run.specs.Record.{append as appendOf, bytes as bytesOf, close as closeOf, finish as finishOf, fixed, openIn, register as registerOf, rollBack, uniqueness, uuid as uuidOf};
+ghost use Rattle.run.specs.Step.{step};
+ghost use Rattle.table.specs.Decide.{nameOf, stored};
+ghost use Rattle.ffi.specs.Scalars.{kindOf, variantOf};
+ghost use Rattle.ffi.specs.Words.{DoesWords, FinishesWords, builderOf, containersOf, freshCounts, stateOf};
+
+// A fresh builder; children inherit the uniqueness mark. It sets the counts alone.
+#[no_mangle]
+pub extern "C" fn variant_new(words: &mut [usize; WORDS], unique: bool)
+    ensures { λ _. ⌜ builderOf (now (words .exit)) ≡ record { containers = containersOf (now (words .entry)); counts = freshCounts unique } ⌝ }
+{
+    let m = metadata::new();
+    let c = Counts {
+        value: 0,
+        entries: 0,
+        depth: 0,
+        dictionary: m,
+        unique: unique,
+        finished: false,
+    };
+    put_counts(words, c);
+}
+
+// A name given beforehand, at the top level.
+#[no_mangle]
+pub extern "C" fn variant_add_field_name(
+    words: &mut [usize; WORDS],
+    value: &[u8],
+    text: &mut [u8],
+    ends: &mut [usize],
+    entries: &[usize],
+    name: &[u8],
+) -> u8
+    ensures { λ r. ⌜ DoesWords r (now (words .entry)) (now (words .exit)) (stored (now (value .entry)) (now (text .exit)) (now (ends .exit)) (now (entries .entry))) (step (stateOf (now (words .entry)) (stored (now (value .entry)) (now (text .entry)) (now (ends .entry)) (now (entries .entry)))) (registerOf (now (name .entry)))) ⌝ }
+{
+    let v = view_of(words);
+    let r = register(v, value, text, ends, entries, name);
+    moved(words, r)
+}
+
+// The innermost container closed.
+#[no_mangle]
+pub extern "C" fn variant_close(
+    words: &mut [usize; WORDS],
+    value: &mut [u8],
+    text: &[u8],
+    ends: &[usize],
+    entries: &mut [usize],
+) -> u8
+    ensures { λ r. ⌜ DoesWords r (now (words .entry)) (now (words .exit)) (stored (now (value .exit)) (now (text .entry)) (now (ends .entry)) (now (entries .exit))) (step (stateOf (now (words .entry)) (stored (now (value .entry)) (now (text .entry)) (now (ends .entry)) (now (entries .entry)))) closeOf) ⌝ }
+{
+    let v = view_of(words);
+    let r = close_over(v, value, text, ends, entries);
+    moved(words, r)
+}
+
+// The innermost container rolled back.
+#[no_mangle]
+pub extern "C" fn variant_rollback(
+    words: &mut [usize; WORDS],
+    value: &[u8],
+    text: &[u8],
+    ends: &[usize],
+    entries: &mut [usize],
+) -> u8
+    ensures { λ r. ⌜ DoesWords r (now (words .entry)) (now (words .exit)) (stored (now (value .entry)) (now (text .entry)) (now (ends .entry)) (now (entries .exit))) (step (stateOf (now (words .entry)) (stored (now (value .entry)) (now (text .entry)) (now (ends .entry)) (now (entries .entry)))) rollBack) ⌝ }
+{
+    let v = view_of(words);
+    let r = rollback_over(v, value, text, ends, entries);
+    moved(words, r)
+}
+
+// A scalar of fixed size: the code of its type (specs/Scalars.antt), a signed number, an unsigned one and a scale. Numbers that are
+// no scalar are refused: with 7, where no earlier row holds.
+#[no_mangle]
+pub extern "C" fn variant_append_value(
+    words: &mut [usize; WORDS],
+    value: &mut [u8],
+    text: &mut [u8],
+    ends: &mut [usize],
+    entries: &mut [usize],
+    named: bool,
+    name: &[u8],
+    code: u8,
+    z: i64,
+    low: u64,
+    scale: u8,
+) -> u8
+    ensures { λ r. ⌜ DoesWords r (now (words .entry)) (now (words .exit)) (stored (now (value .exit)) (now (text .exit)) (now (ends .exit)) (now (entries .exit))) (step (stateOf (now (words .entry)) (stored (now (value .entry)) (now (text .entry)) (now (ends .entry)) (now (entries .entry)))) (appendOf (nameOf named (now (name .entry))) (fixed (variantOf code z low scale)))) ⌝ }
+{
+    let v = view_of(words);
+    let x = variant_of(code, z, low, scale);
+    let r = append_value_over(v, value, text, ends, entries, named, name, x);
+    moved(words, r)
+}
+
+// Bytes of kind 0, binary; 1, String; 2, short text; any other, plain text.
+#[no_mangle]
+pub extern "C" fn variant_append_bytes(
+    words: &mut [usize; WORDS],
+    value: &mut [u8],
+    text: &mut [u8],
+    ends: &mut [usize],
+    entries: &mut [usize],
+    named: bool,
+    name: &[u8],
+    kind: u8,
+    bytes: &[u8],
+) -> u8
+    ensures { λ r. ⌜ DoesWords r (now (words .entry)) (now (words .exit)) (stored (now (value .exit)) (now (text .exit)) (now (ends .exit)) (now (entries .exit))) (step (stateOf (now (words .entry)) (stored (now (value .entry)) (now (text .entry)) (now (ends .entry)) (now (entries .entry)))) (appendOf (nameOf named (now (name .entry))) (bytesOf (kindOf kind) (now (bytes .entry))))) ⌝ }
+{
+    let v = view_of(words);
+    let k = kind_of(kind);
+    let r = append_bytes_over(v, value, text, ends, entries, named, name, k, bytes);
+    moved(words, r)
+}
+
+#[no_mangle]
+pub extern "C" fn variant_append_uuid(
+    words: &mut [usize; WORDS],
+    value: &mut [u8],
+    text: &mut [u8],
+    ends: &mut [usize],
+    entries: &mut [usize],
+    named: bool,
+    name: &[u8],
+    uuid: &[u8; 16],
+) -> u8
+    ensures { λ r. ⌜ DoesWords r (now (words .entry)) (now (words .exit)) (stored (now (value .exit)) (now (text .exit)) (now (ends .exit)) (now (entries .exit))) (step (stateOf (now (words .entry)) (stored (now (value .entry)) (now (text .entry)) (now (ends .entry)) (now (entries .entry)))) (appendOf (nameOf named (now (name .entry))) (uuidOf (now (uuid .entry))))) ⌝ }
+{
+    let v = view_of(words);
+    let u = *uuid;
+    let r = append_uuid_over(v, value, text, ends, entries, named, name, u);
+    moved(words, r)
+}
+
+#[no_mangle]
+pub extern "C" fn variant_new_list(
+    words: &mut [usize; WORDS],
+    value: &[u8],
+    text: &mut [u8],
+    ends: &mut [usize],
+    entries: &mut [usize],
+    named: bool,
+    name: &[u8],
+) -> u8
+    ensures { λ r. ⌜ DoesWords r (now (words .entry)) (now (words .exit)) (stored (now (value .entry)) (now (text .exit)) (now (ends .exit)) (now (entries .exit))) (step (stateOf (now (words .entry)) (stored (now (value .entry)) (now (text .entry)) (now (ends .entry)) (now (entries .entry)))) (openIn (nameOf named (now (name .entry))) false)) ⌝ }
+{
+    new_container(words, value, text, ends, entries, named, name, false)
+}
+
+#[no_mangle]
+pub extern "C" fn variant_new_object(
+    words: &mut [usize; WORDS],
+    value: &[u8],
+    text: &mut [u8],
+    ends: &mut [usize],
+    entries: &mut [usize],
+    named: bool,
+    name: &[u8],
+) -> u8
+    ensures { λ r. ⌜ DoesWords r (now (words .entry)) (now (words .exit)) (stored (now (value .entry)) (now (text .exit)) (now (ends .exit)) (now (entries .exit))) (step (stateOf (now (words .entry)) (stored (now (value .entry)) (now (text .entry)) (now (ends .entry)) (now (entries .entry)))) (openIn (nameOf named (now (name .entry))) true)) ⌝ }
+{
+    new_container(words, value, text, ends, entries, named, name, true)
+}
+
+fn new_container(
+    words: &mut [usize; WORDS],
+    value: &[u8],
+    text: &mut [u8],
+    ends: &mut [usize],
+    entries: &mut [usize],
+    named: bool,
+    name: &[u8],
+    object: bool,
+) -> u8
+    ensures { λ r. ⌜ DoesWords r (now (words .entry)) (now (words .exit)) (stored (now (value .entry)) (now (text .exit)) (now (ends .exit)) (now (entries .exit))) (step (stateOf (now (words .entry)) (stored (now (value .entry)) (now (text .entry)) (now (ends .entry)) (now (entries .entry)))) (openIn (nameOf named (now (name .entry))) object)) ⌝ }
+{
+    let v = view_of(words);
+    let r = open_over(v, value, text, ends, entries, named, name, object);
+    let n = r.number;
+    if n != 0 {
+        return n;
+    }
+    let k = r.container;
+    let c = r.counts;
+    put_container(words, v.counts.depth, k);
+    put_counts(words, c);
+    0
+}
+
+// The uniqueness mark of the innermost object, for later calls.
+#[no_mangle]
+pub extern "C" fn variant_with_validate_unique_fields(
+    words: &mut [usize; WORDS],
+    value: &[u8],
+    text: &[u8],
+    ends: &[usize],
+    entries: &[usize],
+    unique: bool,
+) -> u8
+    ensures { λ r. ⌜ DoesWords r (now (words .entry)) (now (words .exit)) (stored (now (value .entry)) (now (text .entry)) (now (ends .entry)) (now (entries .entry))) (step (stateOf (now (words .entry)) (stored (now (value .entry)) (now (text .entry)) (now (ends .entry)) (now (entries .entry)))) (uniqueness unique)) ⌝ }
+{
+    let v = view_of(words);
+    let n = unique_number(v, value, text, ends, entries);
+    if n != 0 {
+        return n;
+    }
+    let k = v.inner;
+    let p = k.parent;
+    let marked = Container {
+        value: k.value,
+        names: k.names,
+        text: k.text,
+        entries: k.entries,
+        parent: p,
+        object: k.object,
+        unique: unique,
+    };
+    put_container(words, v.counts.depth - 1, marked);
+    0
+}
+
+// The dictionary at the start of `out`, its length in `written`, and the builder finished. A refused call leaves `written`.
+#[no_mangle]
+pub extern "C" fn variant_finish(
+    words: &mut [usize; WORDS],
+    value: &[u8],
+    text: &[u8],
+    ends: &[usize],
+    entries: &[usize],
+    out: &mut [u8],
+    written: &mut usize,
+) -> u8
+    ensures { λ r. ⌜ FinishesWords r (now (words .entry)) (now (words .exit)) (stored (now (value .entry)) (now (text .entry)) (now (ends .entry)) (now (entries .entry))) (now (out .exit)) (now (written .entry)) (now (written .exit)) (step (stateOf (now (words .entry)) (stored (now (value .entry)) (now (text .entry)) (now (ends .entry)) (now (entries .entry)))) (finishOf (now (out .entry)))) ⌝ }
+{
+    let v = view_of(words);
+    let r = finish_over(v, value, text, ends, entries, out);
+    let n = r.number;
+    if n != 0 {
+        return n;
+    }
+    let c = r.counts;
+    put_counts(words, c);
+    *written = r.written;
+    0
+}

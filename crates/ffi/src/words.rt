@@ -1,0 +1,245 @@
+// The state words read and written, piece by piece.
+use crate::WORDS;
+use pieces::Moved;
+use run::Container;
+use run::Counts;
+use run::ParentEntry;
+use run::View;
+ghost use mathlib.Core.Path.{_≡_};
+ghost use Prim.Native.Nat.{_-_, _<_};
+ghost use lib.ListN.{length, set};
+ghost use Rattle.run.specs.Record.{chained, containerAt, innermost, noContainer, parentOf, viewOf};
+ghost use Rattle.run.specs.Record.{under as underOf};
+ghost use Rattle.ffi.specs.Words.{builderOf, containersOf, countsOf, Puts, flag as flagOf, idOf, offsetOf, parentEntryOf, tagOf, wordOf};
+
+// How many words there are.
+fn count(words: &[usize]) -> usize
+    ensures { λ r. ⌜ r ≡ length (now (words .entry)) ⌝ }
+{
+    words.len()
+}
+
+// That there are 584 is known of a slice of them.
+fn whole(words: &[usize; WORDS]) -> usize
+    ensures { λ r. ⌜ length (now (words .entry)) ≡ 584 ⌝ }
+{
+    count(words)
+}
+
+fn flag(x: usize) -> bool
+    ensures { λ r. ⌜ r ≡ flagOf x ⌝ }
+{
+    x != 0
+}
+
+fn word(b: bool) -> usize
+    ensures { λ r. ⌜ r ≡ wordOf b ⌝ }
+{
+    if b {
+        return 1;
+    }
+    0
+}
+
+fn parent_entry(tag: usize, id: usize, offset: usize) -> ParentEntry
+    ensures { λ r. ⌜ r ≡ parentEntryOf tag id offset ⌝ }
+{
+    if tag == 0 {
+        return ParentEntry::New;
+    }
+    ParentEntry::Replaced {
+        id: id,
+        offset: offset,
+    }
+}
+
+fn tag_of(e: ParentEntry) -> usize
+    ensures { λ r. ⌜ r ≡ tagOf e ⌝ }
+{
+    match e {
+        ParentEntry::New => 0,
+        ParentEntry::Replaced { id: _, offset: _ } => 1,
+    }
+}
+
+fn id_of(e: ParentEntry) -> usize
+    ensures { λ r. ⌜ r ≡ idOf e ⌝ }
+{
+    match e {
+        ParentEntry::New => 0,
+        ParentEntry::Replaced { id, offset: _ } => id,
+    }
+}
+
+fn offset_of(e: ParentEntry) -> usize
+    ensures { λ r. ⌜ r ≡ offsetOf e ⌝ }
+{
+    match e {
+        ParentEntry::New => 0,
+        ParentEntry::Replaced { id: _, offset } => offset,
+    }
+}
+
+fn no_container() -> Container
+    ensures { λ r. ⌜ r ≡ noContainer ⌝ }
+{
+    Container {
+        value: 0,
+        names: 0,
+        text: 0,
+        entries: 0,
+        parent: ParentEntry::New,
+        object: false,
+        unique: false,
+    }
+}
+
+pub(crate) fn put_counts(words: &mut [usize; WORDS], c: Counts)
+    ensures { λ _. ⌜ builderOf (now (words .exit)) ≡ record { containers = containersOf (now (words .entry)); counts = c } ⌝ }
+{
+    whole(words);
+    let m = c.dictionary;
+    words[0] = c.value;
+    words[1] = c.entries;
+    words[2] = c.depth;
+    words[3] = m.names;
+    words[4] = m.text;
+    words[5] = word(m.sorted);
+    words[6] = word(c.unique);
+    words[7] = word(c.finished);
+}
+
+pub(crate) fn put_container(words: &mut [usize; WORDS], d: usize, k: Container)
+    requires { ⌜ d < 64 ⌝ }
+    ensures { λ _. ⌜ builderOf (now (words .exit)) ≡ record { containers = set (containersOf (now (words .entry))) d k; counts = countsOf (now (words .entry)) } ⌝ }
+{
+    whole(words);
+    let p = 8 + 9 * d;
+    let e = k.parent;
+    words[p] = k.value;
+    words[p + 1] = k.names;
+    words[p + 2] = k.text;
+    words[p + 3] = k.entries;
+    words[p + 4] = tag_of(e);
+    words[p + 5] = id_of(e);
+    words[p + 6] = offset_of(e);
+    words[p + 7] = word(k.object);
+    words[p + 8] = word(k.unique);
+}
+
+fn counts_of(words: &[usize; WORDS]) -> Counts
+    ensures { λ r. ⌜ r ≡ countsOf (now (words .entry)) ⌝ }
+{
+    let m = metadata::MetadataBuilder {
+        names: words[3],
+        text: words[4],
+        sorted: flag(words[5]),
+    };
+    Counts {
+        value: words[0],
+        entries: words[1],
+        depth: words[2],
+        dictionary: m,
+        unique: flag(words[6]),
+        finished: flag(words[7]),
+    }
+}
+
+fn container_at(words: &[usize; WORDS], d: usize) -> Container
+    ensures { λ r. ⌜ r ≡ containerAt (containersOf (now (words .entry))) d ⌝ }
+{
+    if 64 <= d {
+        return no_container();
+    }
+    let p = 8 + 9 * d;
+    let e = parent_entry(words[p + 4], words[p + 5], words[p + 6]);
+    Container {
+        value: words[p],
+        names: words[p + 1],
+        text: words[p + 2],
+        entries: words[p + 3],
+        parent: e,
+        object: flag(words[p + 7]),
+        unique: flag(words[p + 8]),
+    }
+}
+
+// What a call sees of the builder that the words mean.
+pub(crate) fn view_of(words: &[usize; WORDS]) -> View
+    ensures { λ r. ⌜ r ≡ viewOf (builderOf (now (words .entry))) ⌝ }
+{
+    let c = counts_of(words);
+    let k = inner_of(words, c.depth);
+    let p = parent_of(words, c.depth);
+    let h = chain_of(words, c.depth);
+    View {
+        counts: c,
+        inner: k,
+        parent: p,
+        chain: h,
+    }
+}
+
+fn inner_of(words: &[usize; WORDS], d: usize) -> Container
+    ensures { λ r. ⌜ r ≡ innermost (containersOf (now (words .entry))) d ⌝ }
+{
+    if d == 0 {
+        return no_container();
+    }
+    container_at(words, d - 1)
+}
+
+fn parent_of(words: &[usize; WORDS], d: usize) -> Container
+    ensures { λ r. ⌜ r ≡ parentOf (containersOf (now (words .entry))) d ⌝ }
+{
+    if d < 2 {
+        return no_container();
+    }
+    container_at(words, d - 2)
+}
+
+// Are at most 64 open, and does no starting mark fall from one to the next?
+fn chain_of(words: &[usize; WORDS], d: usize) -> bool
+    ensures { λ r. ⌜ r ≡ chained (containersOf (now (words .entry))) d ⌝ }
+{
+    if 64 < d {
+        return false;
+    }
+    if d == 0 {
+        return true;
+    }
+    let mut ok = true;
+    let mut i = d - 1;
+    while 0 < i {
+        let below = under(words, i);
+        i -= 1;
+        ok = ok & below;
+    }
+    ok
+}
+
+// Do the starting marks of the container before depth i lie at or below those of the one there?
+fn under(words: &[usize; WORDS], i: usize) -> bool
+    requires { ⌜ 0 < i ⌝ }
+    requires { ⌜ i < 64 ⌝ }
+    ensures { λ r. ⌜ r ≡ underOf (containerAt (containersOf (now (words .entry))) (i - 1)) (containerAt (containersOf (now (words .entry))) i) ⌝ }
+{
+    let p = 8 + 9 * (i - 1);
+    let q = 8 + 9 * i;
+    (words[p] <= words[q])
+        & ((words[p + 1] <= words[q + 1])
+            & ((words[p + 2] <= words[q + 2]) & (words[p + 3] <= words[q + 3])))
+}
+
+// A piece's counts put back where its number is 0, and its number.
+pub(crate) fn moved(words: &mut [usize; WORDS], r: Moved) -> u8
+    ensures { λ n. ⌜ Puts r n (now (words .entry)) (now (words .exit)) ⌝ }
+{
+    let n = r.number;
+    if n != 0 {
+        return n;
+    }
+    let c = r.counts;
+    put_counts(words, c);
+    0
+}

@@ -1,0 +1,98 @@
+// What was expected against what came, and the counts.
+
+// The script at hand and its call, the calls and differences so far, and whether the input was not as it must be.
+pub struct Tally {
+    pub script: usize,
+    pub call: usize,
+    pub calls: usize,
+    pub differences: usize,
+    pub malformed: bool,
+}
+
+pub fn started(t: Tally) -> Tally {
+    Tally {
+        script: more(t.script),
+        call: 0,
+        calls: t.calls,
+        differences: t.differences,
+        malformed: false,
+    }
+}
+
+pub fn counted(t: Tally) -> Tally {
+    Tally {
+        script: t.script,
+        call: more(t.call),
+        calls: more(t.calls),
+        differences: t.differences,
+        malformed: false,
+    }
+}
+
+// A number: 0 for a call carried out, or the refusal's.
+pub fn answered(t: Tally, expected: u8, got: u8) -> Tally {
+    if expected == got {
+        return t;
+    }
+    place(t);
+    show::text(b"expected ");
+    show::number(expected as usize);
+    show::text(b", got ");
+    show::number(got as usize);
+    show::text(b"\n");
+    different(t)
+}
+
+// The first n bytes.
+pub fn compared(t: Tally, what: &[u8], bytes: &[u8], n: usize, expected: &[u8]) -> Tally {
+    if n <= bytes.len() {
+        if check::same(&bytes[0..n], expected) {
+            return t;
+        }
+    }
+    place(t);
+    show::text(what);
+    show::text(b" expected ");
+    show::hex(expected, expected.len());
+    show::text(b", got ");
+    show::hex(bytes, n);
+    show::text(b"\n");
+    different(t)
+}
+
+pub fn malformed(t: Tally) -> Tally {
+    place(t);
+    show::text(b"what follows is malformed\n");
+    Tally {
+        script: t.script,
+        call: t.call,
+        calls: t.calls,
+        differences: t.differences,
+        malformed: true,
+    }
+}
+
+fn different(t: Tally) -> Tally {
+    Tally {
+        script: t.script,
+        call: t.call,
+        calls: t.calls,
+        differences: more(t.differences),
+        malformed: false,
+    }
+}
+
+fn place(t: Tally) {
+    show::text(b"script ");
+    show::number(t.script);
+    show::text(b", call ");
+    show::number(t.call);
+    show::text(b": ");
+}
+
+fn more(n: usize) -> usize {
+    if n < 1_000_000 {
+        return n + 1;
+    }
+    n
+}

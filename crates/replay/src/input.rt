@@ -1,0 +1,115 @@
+// The sample, from standard input: bytes in hexadecimal, in fields with a comma or a line end behind each.
+use libc::STDIN_FILENO;
+
+// A script's first line: its mark, how many calls it has, and the storage that it is lent.
+pub struct Start {
+    pub unique: bool,
+    pub calls: usize,
+    pub value: usize,
+    pub text: usize,
+    pub ends: usize,
+    pub entries: usize,
+}
+
+// A call's first field: the call, its argument, the number expected, whether a name is given, the size of the output, and the
+// sizes of the name and the operand, which are the next two fields.
+pub struct Header {
+    pub call: u8,
+    pub argument: u8,
+    pub number: u8,
+    pub named: bool,
+    pub size: usize,
+    pub name: usize,
+    pub operand: usize,
+}
+
+// How many scripts there are; where that is missing, one, which is not there.
+pub fn read_count() -> usize {
+    let mut b = [0u8, 1];
+    field(&mut b, 2);
+    two(b[0], b[1])
+}
+
+// Where a byte is missing, too large a storage.
+pub fn read_start() -> Start {
+    let mut b = [0u8; 11];
+    if !field(&mut b, 11) {
+        b[3] = 255;
+    }
+    Start {
+        unique: b[0] == 1,
+        calls: two(b[1], b[2]),
+        value: two(b[3], b[4]),
+        text: two(b[5], b[6]),
+        ends: two(b[7], b[8]),
+        entries: two(b[9], b[10]),
+    }
+}
+
+// Where a byte is missing or there is no such call, too large an operand.
+pub fn read_header() -> Header {
+    let mut b = [0u8; 10];
+    let whole = field(&mut b, 10);
+    if !whole | (b[0] == 0) | (10 < b[0]) {
+        b[8] = 255;
+    }
+    Header {
+        call: b[0],
+        argument: b[1],
+        number: b[2],
+        named: b[3] == 1,
+        size: two(b[4], b[5]),
+        name: two(b[6], b[7]),
+        operand: two(b[8], b[9]),
+    }
+}
+
+fn two(high: u8, low: u8) -> usize {
+    high as usize * 256 + low as usize
+}
+
+// The next n bytes, into `out`: are they there, with a comma or a line end behind them?
+pub fn field(out: &mut [u8], n: usize) -> bool {
+    let mut i = 0;
+    while i < n {
+        let b = byte();
+        if 255 < b {
+            return false;
+        }
+        if out.len() <= i {
+            return false;
+        }
+        out[i] = b as u8;
+        i += 1;
+    }
+    parted()
+}
+
+fn parted() -> bool {
+    let mut c = [b'0'];
+    io::read_full(STDIN_FILENO, &mut c);
+    (c[0] == b',') | (c[0] == b'\n')
+}
+
+// The next byte, or 256.
+fn byte() -> usize {
+    let mut digits = [0u8; 2];
+    io::read_full(STDIN_FILENO, &mut digits);
+    let high = digit(digits[0]);
+    let low = digit(digits[1]);
+    if 15 < high {
+        return 256;
+    }
+    if 15 < low {
+        return 256;
+    }
+    high * 16 + low
+}
+
+fn digit(c: u8) -> usize {
+    match c {
+        b'0'..=b'9' => (c - b'0') as usize,
+        b'a'..=b'f' => (c - b'a') as usize + 10,
+        _ => 16,
+    }
+}

@@ -1,0 +1,255 @@
+#!/usr/bin/env python3
+"""Holds a writer against the model of document 01 and against the Rust, by random scripts of calls.
+
+    compare.py WRITER MODEL [ORACLE] [--seed S] [--calls N] [--kind KIND]
+    compare.py --sample FOLDER MODEL ORACLE [--seed S]
+
+WRITER and ORACLE are programs that answer a script on stdin, MODEL is the folder of model.py and script.py,
+whose README has the grammar. N counts the calls held against ORACLE, or without it against the model.
+
+Every answer of WRITER must be the model's. ORACLE gets the same runs but for altered storage, without the calls
+that are refused with a number other than 6, 10 and 15 (a refusal changes nothing) and without dumps; each of its
+answers must be WRITER's. A run with an accepted scalar that the Rust's types don't hold is left out.
+--sample writes scripts.txt and answers.txt: short runs of calls that the Rust answers, and its answers.
+"""
+import argparse
+import collections
+import os
+import subprocess
+import sys
+import time
+
+import scripts
+
+CALLS = ("register", "append", "open", "close", "rollback", "unique", "finish")
+BATCH = 30_000
+SHOWN = 5
+LIMITS = {"value": 2048, "namebytes": 512, "names": 64, "entries": 256, "out": 1024}
+
+
+def load(folder):
+    """The model's module, with the grammar's two functions."""
+    sys.path.insert(0, folder)
+    import model
+    import script
+    model.format_call = script.format_call
+    return model
+
+
+def ask(program, lines):
+    """The program's answers, and what it said if it fell."""
+    done = subprocess.run([program], input="\n".join(lines) + "\n", capture_output=True, text=True)
+    answers = done.stdout.splitlines()
+    return answers + [f"fell with {done.returncode}: {done.stderr.strip()[-200:]}"] * (done.returncode != 0)
+
+
+def for_oracle(model, calls, answers):
+    """The places of the lines that the Rust answers, or None where the run is left out."""
+    places = []
+    for i, (call, answer) in enumerate(zip(calls, answers)):
+        held = call[0] != "append" or scripts.rust_holds(call[2])
+        if call[0] == "new" or answer.startswith("ok"):
+            if not held:
+                return None
+            places.append(i)
+        elif answer in ("refused 6", "refused 10", "refused 15"):
+            # 6 comes before 7 and 8: the Rust cannot say what those would refuse
+            if held and (call[0] != "append" or not model.scalar_refusal(call[2])):
+                places.append(i)
+    return places
+
+
+# ---------------------------------------------------------------- one run again, smaller
+
+def model_answers(model, calls):
+    session = model.Session()
+    return [session.answer(call) for call in calls]
+
+
+def differs(model, writer, oracle, lines):
+    """What differs in one run: None, or the line with both answers."""
+    calls = [model.parse_line(line) for line in lines]
+    expected, got = model_answers(model, calls), ask(writer, lines)
+    if oracle:
+        places = for_oracle(model, calls, expected)
+        if places is None:
+            return None
+        expected, got = ask(oracle, [lines[i] for i in places]), [got[i] if i < len(got) else "-" for i in places]
+        lines = [lines[i] for i in places]
+    for i, line in enumerate(lines):
+        pair = [answers[i] if i < len(answers) else "-" for answers in (expected, got)]
+        if pair[0] != pair[1]:
+            return line, *pair
+    return None
+
+
+def smallest(model, writer, oracle, lines):
+    """The run with as many lines taken out as the difference bears."""
+    size = len(lines) // 2
+    while size:
+        at = 1
+        while at < len(lines):
+            fewer = lines[:at] + lines[at + size:]
+            try:
+                keeps = differs(model, writer, oracle, fewer)
+            except (ValueError, IndexError):
+                keeps = None
+            lines, at = (fewer, at) if keeps else (lines, at + size)
+        size //= 2
+    return lines
+
+
+def report(model, writer, oracle, run):
+    lines = smallest(model, writer, oracle, run.lines)
+    line, expected, got = differs(model, writer, oracle, lines) or ("only among other runs", "", "")
+    print(f"difference from the {'Rust' if oracle else 'model'}, kind {run.kind}:")
+    print("  " + " / ".join(lines))
+    print(f"  at: {line}\n  {'Rust' if oracle else 'model'}: {expected[:400]}\n  writer: {got[:400]}", flush=True)
+
+
+# ---------------------------------------------------------------- many runs
+
+class Counts:
+    def __init__(self):
+        self.runs, self.finished, self.model, self.oracle = (collections.Counter() for _ in range(4))
+        self.left_out, self.finished_oracle, self.verbs, self.answers = (collections.Counter() for _ in range(4))
+
+    def note(self, run, places):
+        kind = run.kind
+        self.runs[kind] += 1
+        for call, answer in zip(run.calls, run.answers):
+            if call[0] in CALLS:
+                self.model[kind] += 1
+                self.verbs[call[0]] += 1
+                self.answers[answer if answer.startswith("refused") else "accepted"] += 1
+                self.finished[kind] += answer.startswith("ok value")
+        if places is None:
+            self.left_out[kind] += 1
+        elif places:
+            self.oracle[kind] += len(places) - 1
+            self.finished_oracle[kind] += any(run.answers[i].startswith("ok value") for i in places)
+
+    def show(self):
+        row = "{:<10} {:>8} {:>13} {:>12} {:>9} {:>10} {:>9}"
+        print(row.format("kind", "runs", "calls: model", "calls: Rust", "finished", "with Rust", "left out"))
+        columns = (self.runs, self.model, self.oracle, self.finished, self.finished_oracle, self.left_out)
+        for kind in [*scripts.MAKERS, "all"]:
+            print(row.format(kind, *(c.total() if kind == "all" else c[kind] for c in columns)))
+        print("calls: " + ", ".join(f"{verb} {n}" for verb, n in sorted(self.verbs.items())))
+        order = sorted(self.answers.items(), key=lambda p: int(p[0].split()[-1]) if " " in p[0] else 0)
+        print("answers: " + ", ".join(f"{answer} {n}" for answer, n in order))
+
+
+def cut(answers, lengths):
+    """The answers run by run; a missing one is '-'."""
+    at = 0
+    for length in lengths:
+        part = answers[at:at + length]
+        yield part + ["-"] * (length - len(part))
+        at += length
+
+
+def batch(model, args, runs, counts):
+    """Holds runs against both sides; the number of runs that differ."""
+    faults = 0
+    got = list(cut(ask(args.writer, [line for run in runs for line in run.lines]), [len(run.lines) for run in runs]))
+    places = [for_oracle(model, run.calls, run.answers) if run.kind != "altered" and args.oracle else [] for run in runs]
+    asked = [(run, p, mine) for run, p, mine in zip(runs, places, got) if p]
+    for run, mine, kept in zip(runs, got, places):
+        counts.note(run, kept)
+        if mine != run.answers:
+            faults += 1
+            if faults <= SHOWN:
+                report(model, args.writer, None, run)
+            if mine[-1] == "-":
+                sys.exit("WRITER fell: the runs after it have no answers")
+    if asked:
+        rust = cut(ask(args.oracle, [run.lines[i] for run, p, _ in asked for i in p]), [len(p) for _, p, _ in asked])
+        for (run, p, mine), theirs in zip(asked, rust):
+            if [mine[i] for i in p] != theirs and mine == run.answers:
+                faults += 1
+                if faults <= SHOWN:
+                    report(model, args.writer, args.oracle, run)
+    return faults
+
+
+def compare(model, args):
+    counts, faults, numbers, start, told = Counts(), 0, collections.Counter(), time.time(), 0
+    shares = {args.kind: 1} if args.kind else scripts.SHARES
+    made = collections.Counter()
+    while (counts.oracle if args.oracle and args.kind != "altered" else counts.model).total() < args.calls:
+        runs, lines = [], 0
+        while lines < BATCH:
+            kind = min(shares, key=lambda k: made[k] / shares[k])
+            runs.append(scripts.make(model, args.seed, kind, numbers[kind]))
+            numbers[kind] += 1
+            made[kind] += len(runs[-1].lines)
+            lines += len(runs[-1].lines)
+        faults += batch(model, args, runs, counts)
+        if time.time() - told > 20:
+            told = time.time()
+            print(f"{counts.model.total()} calls with the model, {counts.oracle.total()} with the Rust, "
+                  f"{faults} differences, {told - start:.0f} s", file=sys.stderr, flush=True)
+        if faults >= SHOWN:
+            break
+    counts.show()
+    print(f"seed {args.seed}: {faults} runs that differ")
+    return 1 if faults else 0
+
+
+# ---------------------------------------------------------------- the sample
+
+def short_run(model, run, exact):
+    """The run's calls that the Rust answers, over storages just enough (or a little more); None if too large."""
+    places = for_oracle(model, run.calls, run.answers)
+    if not places or len(places) > (150 if run.kind == "deep" else 26) or len(places) < 3:
+        return None
+    sizes = {key: n + (0 if exact else 5) for key, n in run.peak.items()}
+    if any(n > LIMITS[key] for key, n in sizes.items()):
+        return None
+    out = sizes.pop("out")
+    head = ("new", {"unique": run.calls[0][1]["unique"], **sizes, "fill": run.calls[0][1]["fill"]})
+    calls = [head] + [("finish", out) if run.calls[i][0] == "finish" else run.calls[i] for i in places[1:]]
+    answers = [run.answers[i] for i in places]
+    return [model.format_call(call) for call in calls] if model_answers(model, calls) == answers else None
+
+
+def sample(model, args, per_kind=46):
+    kept = []
+    for kind in [kind for kind in scripts.MAKERS if kind != "altered"]:
+        number = found = 0
+        while found < per_kind:
+            lines = short_run(model, scripts.make(model, args.seed, kind, number, short=True), number % 2 == 0)
+            number += 1
+            if lines:
+                kept.append((f"# {len(kept) + 1} {kind}", lines))
+                found += 1
+    calls = [line for _, lines in kept for line in lines]
+    answers = ask(args.oracle, calls)
+    if answers != model_answers(model, [model.parse_line(line) for line in calls]):
+        sys.exit("the Rust differs from the model")
+    os.makedirs(args.sample, exist_ok=True)
+    with open(os.path.join(args.sample, "scripts.txt"), "w") as out:
+        out.writelines("\n".join([mark, *lines]) + "\n" for mark, lines in kept)
+    with open(os.path.join(args.sample, "answers.txt"), "w") as out:
+        out.write("\n".join(answers) + "\n")
+    print(f"{len(kept)} scripts, {len(calls) - len(kept)} calls, {sum(a.startswith('ok value') for a in answers)} finished")
+    return 0
+
+
+def main():
+    parser = argparse.ArgumentParser(description=__doc__, formatter_class=argparse.RawDescriptionHelpFormatter)
+    parser.add_argument("programs", nargs="+", metavar="WRITER MODEL ORACLE")
+    parser.add_argument("--seed", default="1")
+    parser.add_argument("--calls", type=int, default=100_000)
+    parser.add_argument("--kind", choices=list(scripts.MAKERS))
+    parser.add_argument("--sample", metavar="FOLDER")
+    args = parser.parse_args()
+    names = [None, *args.programs] if args.sample else [*args.programs, None]
+    args.writer, folder, args.oracle = names[:3]
+    model = load(folder)
+    return sample(model, args) if args.sample else compare(model, args)
+
+
+if __name__ == "__main__":
+    sys.exit(main())

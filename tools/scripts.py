@@ -1,0 +1,486 @@
+"""Random scripts of named kinds for compare.py; the grammar is that of the model's README.
+
+A run is made call by call on the model, so that a call can be chosen by the state it meets.
+Every run comes from its own seed: the same seed, kind and number give the same script.
+"""
+import random
+
+OBJECTS = ("list", "object")
+EDGE_CHARS = [b"\x00", b"\x7f", b"\xc2\x80", b"\xdf\xbf", b"\xe0\xa0\x80", b"\xed\x9f\xbf", b"\xee\x80\x80",
+              b"\xef\xbf\xbf", b"\xf0\x90\x80\x80", b"\xf3\xbf\xbf\xbf", b"\xf4\x8f\xbf\xbf"]
+BAD_TEXTS = [b"\xff", b"\x80", b"\xc3", b"a\xc3", b"a\x80", b"\xc1\xbf", b"\xc2\xc0", b"\xe0\x9f\xbf", b"\xe1\x80",
+             b"\xed\xa0\x80", b"\xef\xbf\xc0", b"\xf0\x8f\xbf\xbf", b"\xf1\x80\x80", b"\xf4\x90\x80\x80",
+             b"\xf5\x80\x80\x80", b"ok\xc3\xa9\xed\xbf\xbf"]
+MIXED = [b"a", b"b", b"c", b"ab", b"", b"\xc3\xa9", b"z", b"abc", b"\xf4\x8f\xbf\xbf", b"B", b"a\x00", b"\x00"]
+BITS = {"int8": 8, "int16": 16, "int32": 32, "int64": 64, "date": 32, "time": 64, "tsmicros": 64, "tsntzmicros": 64,
+        "tsnanos": 64, "tsntznanos": 64, "dec4": 32, "dec8": 64, "dec16": 128}
+DIGITS = {"dec4": 9, "dec8": 18, "dec16": 38}
+KINDS = ("null", "true", "false", *BITS, "float", "double", "binary", "string", "short", "text", "uuid")
+DAYS = (-96_465_292, 95_026_236)      # chrono's dates
+MICROS = (DAYS[0] * 86_400_000_000, (DAYS[1] + 1) * 86_400_000_000 - 1)
+DAY = 86_400_000_000
+FILLS = (1, 7, 85, 170, 255, 256, 65535, 2**32 - 1, 2**63, 2**64 - 1)
+AMPLE = {"value": 4096, "namebytes": 1024, "names": 64, "entries": 256}
+
+
+# ---------------------------------------------------------------- scalars
+
+def rust_holds(scalar):
+    """Whether the Rust's types hold a scalar that document 01 takes."""
+    kind = scalar[0]
+    if kind in DIGITS:
+        return scalar[1] <= DIGITS[kind]
+    if kind == "date":
+        return DAYS[0] <= scalar[1] <= DAYS[1]
+    if kind in ("tsmicros", "tsntzmicros"):
+        return MICROS[0] <= scalar[1] <= MICROS[1]
+    return True
+
+
+def whole(rng, kind):
+    """A whole number of the kind's bits: an edge, or one of any length."""
+    top = 1 << BITS[kind] - 1
+    edges = {"date": [e + d for e in DAYS for d in (-1, 0, 1)], "time": [0, DAY - 1, DAY, -1, DAY + 999_999],
+             "tsmicros": [e + d for e in MICROS for d in (-1, 0, 1)]}
+    edges["tsntzmicros"] = edges["tsmicros"]
+    pick = rng.random()
+    if pick < 0.2 and kind in edges:
+        return rng.choice(edges[kind])
+    if pick < 0.35:
+        return rng.choice([0, 1, -1, top - 1, -top, top // 2])
+    n = rng.getrandbits(rng.randint(1, BITS[kind] - 1))
+    return n % DAY if kind == "time" and pick < 0.8 else n if rng.random() < 0.5 else -n
+
+
+def text(rng, bad):
+    """Bytes of a text, with probability `bad` not UTF-8."""
+    pick = rng.random()
+    if pick < 0.5:
+        out = b"".join(rng.choice(MIXED) for _ in range(rng.randrange(5)))
+    elif pick < 0.65:
+        out = b"".join(rng.choice(EDGE_CHARS) for _ in range(rng.randrange(1, 4)))
+    elif pick < 0.9:
+        out = rng.choice([b"a", b"x", b"\x7f"]) * rng.choice([1, 2, 10, 62, 63, 63, 64, 64, 65])
+    else:
+        out = (b"y" * rng.choice([58, 59, 60, 61, 250]) + rng.choice(EDGE_CHARS))
+    if rng.random() < bad:
+        at = rng.randrange(len(out) + 1)
+        out = out[:at] + rng.choice(BAD_TEXTS) + out[at:]
+    return out
+
+
+def any_scalar(rng, bad):
+    kind = rng.choice(KINDS)
+    if kind in ("null", "true", "false"):
+        return (kind,)
+    if kind in ("float", "double"):
+        bits = 32 if kind == "float" else 64
+        return (kind, rng.choice([0, 1 << bits - 1, (1 << bits) - 1, rng.getrandbits(bits), rng.getrandbits(bits)]))
+    if kind == "uuid":
+        return (kind, rng.randbytes(16))
+    if kind == "binary":
+        return (kind, rng.choice([b"", b"\xff" * 70, rng.randbytes(rng.randrange(1, 9))]))
+    if kind in ("string", "short", "text"):
+        return (kind, text(rng, bad))
+    if kind in DIGITS:
+        most = 10**DIGITS[kind] - 1
+        n = rng.choice([0, most, -most, rng.choice([most + 1, -most - 1]), whole(rng, kind), whole(rng, kind) % most])
+        scale = rng.choice([0, DIGITS[kind], rng.randint(0, DIGITS[kind]), rng.randrange(39), rng.choice([10, 19, 38, 39, 255])])
+        return (kind, scale, n)
+    return (kind, whole(rng, kind))
+
+
+# ---------------------------------------------------------------- a run
+
+class Run:
+    """A script as it grows: lines, the calls they state and the model's answers.
+
+    `wrong` is the chance of a misplaced or ill-formed call; in a `held` run the accepted scalars are
+    those that the Rust's types hold."""
+
+    def __init__(self, model, rng, held, pool=None, wrong=0.02, unique=None, **settings):
+        self.model, self.rng, self.held, self.wrong = model, rng, held, wrong
+        self.pool = pool or rng.choice([MIXED, MIXED[:3], [rng.randbytes(2).hex().encode() for _ in range(8)]])
+        self.session, self.lines, self.calls, self.answers = model.Session(), [], [], []
+        self.peak = dict.fromkeys(("value", "namebytes", "names", "entries", "out"), 0)
+        unique = rng.random() < 0.2 if unique is None else unique
+        fill = rng.choice(FILLS)
+        self.say(("new", {"unique": int(unique), **AMPLE, "fill": fill, **settings}))
+
+    def say(self, call):
+        line = self.model.format_call(call)
+        call = self.model.parse_line(line)
+        answer = self.session.answer(call)
+        self.lines.append(line)
+        self.calls.append(call)
+        self.answers.append(answer)
+        r, p = self.record(), self.peak
+        p["value"], p["names"] = max(p["value"], r.value_used), max(p["names"], r.names_used)
+        p["namebytes"], p["entries"] = max(p["namebytes"], r.namebytes_used), max(p["entries"], 2 * r.entries_used)
+        if call[0] == "finish":
+            p["out"] = max(p["out"], len(self.session.written))
+        return answer
+
+    def record(self):
+        return self.session.builder.r
+
+    def inner(self):
+        """The innermost container's kind, or None (of an altered record too)."""
+        r = self.record()
+        return r.containers[r.open - 1].kind if 0 < r.open <= 64 else None
+
+    def chance(self, p):
+        return self.rng.random() < p
+
+    def scalar(self):
+        while True:
+            bad = self.chance(self.wrong)
+            scalar = any_scalar(self.rng, bad)
+            refused = self.model.scalar_refusal(scalar)
+            if bad or not refused:
+                if refused or not self.held or rust_holds(scalar):
+                    return scalar
+
+    def name(self):
+        """A name where one belongs."""
+        if (self.inner() == "object") == self.chance(self.wrong / 2):
+            return None
+        return self.any_name()
+
+    def any_name(self):
+        return self.rng.choice(BAD_TEXTS) if self.chance(self.wrong) else self.rng.choice(self.pool)
+
+    def append(self):
+        return self.say(("append", self.name(), self.scalar()))
+
+    def open(self, kind=None):
+        return self.say(("open", self.name(), kind or self.rng.choice(OBJECTS)))
+
+    def finish(self, out=4096):
+        return self.say(("finish", out))
+
+    def step(self, weights=(9, 4, 3, 2, 1)):
+        """Mostly a call that fits the state."""
+        r = self.record()
+        if r.finished and self.chance(0.9):
+            return None
+        if self.chance(self.wrong):
+            return self.anything()
+        if r.open == 0 and r.value_used == 0 and not self.chance(0.05):
+            return self.open() if self.chance(0.9) else self.say(("register", self.any_name()))
+        if r.open == 0:
+            return self.finish() if self.chance(0.4) else self.anything()
+        if r.open == 1:
+            weights = (weights[0], weights[1], 0.2, 0.4, weights[4])
+        if self.inner() == "list":
+            weights = (*weights[:4], 0)
+        verb = self.rng.choices(("append", "open", "close", "rollback", "unique"), weights)[0]
+        if verb in ("append", "open"):
+            return self.append() if verb == "append" else self.open()
+        return self.say((verb, self.chance(0.5)) if verb == "unique" else (verb,))
+
+    def anything(self):
+        """Any call, whatever the state."""
+        verb = self.rng.choice(("register", "append", "append", "open", "close", "rollback", "unique", "finish"))
+        if verb == "register":
+            return self.say((verb, self.any_name()))
+        if verb in ("append", "open"):
+            return self.append() if verb == "append" else self.open()
+        if verb == "finish":
+            return self.finish(self.rng.choice([4096, 4096, 0, 2, 3, 10]))
+        return self.say((verb, self.chance(0.5)) if verb == "unique" else (verb,))
+
+    def wind_up(self, rollback=0.15, finish=0.95):
+        """Closes or rolls back all that is open, then finishes."""
+        for _ in range(min(self.record().open, 66)):
+            self.say(("rollback",) if self.chance(rollback) else ("close",))
+            if self.chance(0.2):
+                self.append()
+        if self.record().value_used == 0:
+            if self.chance(0.3):
+                self.finish()
+            self.append()
+        if self.chance(finish):
+            self.finish()
+        if self.chance(0.05):
+            self.anything()
+
+
+# ---------------------------------------------------------------- kinds
+
+def plain(new, number, short):
+    run = new()
+    for _ in range(run.rng.randrange(3) if run.chance(0.3) else 0):
+        run.say(("register", run.any_name()))
+    if run.chance(0.15):
+        run.append()
+    for _ in range(run.rng.randrange(15 if short else 45)):
+        run.step()
+    run.wind_up()
+    return run
+
+
+def descend(run, depth, siblings):
+    """Opens containers down to the depth, with a value before one of them now and then."""
+    for _ in range(4 * depth):
+        if run.record().open < depth:
+            if run.record().open and run.chance(siblings):
+                run.append()
+            run.open()
+
+
+def deep(new, number, short):
+    """To 64 open, where one more is refused."""
+    run = new(unique=False, value=8192, entries=300)
+    descend(run, 64 if not short or number % 8 == 0 else run.rng.randint(3, 10), 0.2 if short else 0.4)
+    for _ in range(run.rng.randrange(2 if short else 6)):
+        run.step((4, 4, 1, 1, 1))
+    while run.record().open:
+        for _ in range(0 if short else run.rng.randrange(3)):
+            run.append() if run.chance(0.7) else run.open()
+        if run.chance(0.03) or run.say(("close",)) != "ok":
+            run.say(("rollback",))
+    run.wind_up()
+    return run
+
+
+def rollbacks(new, number, short):
+    """Roll backs at each depth: of a new child, of a replacing one, of one with children."""
+    run = new(unique=False, pool=new.rng.choice([[b"a"], [b"b", b"a"], MIXED, MIXED[:4]]), value=8192, entries=400)
+    depth = 1 + number % (6 if short else 64)
+    descend(run, depth - 1, 0.3)
+    for _ in range(1 if short else run.rng.randint(1, 3)):
+        before = run.record().open
+        if before and run.chance(0.5):
+            run.append()
+        run.open()
+        for _ in range(run.rng.randrange(6)):
+            run.step((5, 3, 1, 1, 1))
+        while run.record().open > before:
+            run.say(("rollback",))
+        run.append()
+    while run.record().open:
+        if run.chance(0.3) or run.say(("close",)) != "ok":
+            run.say(("rollback",))
+        if run.record().open and run.chance(0.3):
+            run.append()
+    run.wind_up()
+    return run
+
+
+def replaced(new, number, short):
+    """Few names: live ones are replaced, or refused where the mark is on."""
+    run = new(pool=[b"b", b"a", b"ab"][:new.rng.randint(1, 3)])
+    run.open("object")
+    for _ in range(run.rng.randrange(3, 16 if short else 40)):
+        run.step((8, 5, 3, 3, 2))
+    run.wind_up()
+    return run
+
+
+def refusals(new, number, short):
+    """Calls in the wrong order, ill-formed ones, calls after finish."""
+    run = new(wrong=0.35)
+    for _ in range(run.rng.randrange(4, 18 if short else 40)):
+        run.step() if run.chance(0.6) else run.anything()
+    run.wrong = 0.1
+    run.wind_up()
+    for _ in range(run.rng.randrange(4)):
+        run.anything()
+    return run
+
+
+def small(new, number, short):
+    """The calls of another run again, over storages just enough or just too small."""
+    other = new.rng.choice([plain, replaced, rollbacks])(new, number, short)
+    rng, sizes = new.rng, dict(other.peak)
+    for key in rng.sample(sorted(sizes), rng.randint(1, 5)):
+        sizes[key] = rng.choice([sizes[key] - 1, sizes[key] - 1, sizes[key], sizes[key] + 1, rng.randint(0, sizes[key])])
+    sizes = {key: max(n, 0) for key, n in sizes.items()}
+    out = sizes.pop("out")
+    run = new(unique=other.calls[0][1]["unique"], **sizes)
+    for call in other.calls[1:]:
+        run.say(("finish", out) if call[0] == "finish" else call)
+    if run.answers[-1] == "refused 16":
+        run.finish(other.peak["out"])
+    return run
+
+
+def edge(new):
+    """Data, or the bytes of all names, that end at a width's edge."""
+    rng = new.rng
+    run = new(value=140_000, namebytes=70_000, pool=MIXED[:4])
+    size = rng.choice([255, 65_535]) + rng.choice([-1, 0, 0, 0, 1, 1])
+    if run.chance(0.4):
+        run.say(("register", b"n" * size))
+    for _ in range(rng.randint(1, 2)):
+        run.open()
+    for _ in range(rng.randrange(4)):
+        run.append()
+    rest = size - 5 - run.record().value_used
+    if rest >= 0:
+        run.say(("append", run.name(), (rng.choice(["binary", "string"]), b"w" * rest)))
+    run.wind_up(rollback=0.02)
+    if run.record().namebytes_used > 4000:
+        run.finish(80_000)
+    return run
+
+
+def wide(new, number, short):
+    """Around 255 entries, over 256 names, data and names to the edges of the widths 1 and 2 and beyond."""
+    rng, large = new.rng, number % 5 == 0
+    if number % 3 == 0 and not short:
+        return edge(new)
+    if short:
+        run = new(pool=[bytes([97 + i]) * rng.randint(1, 9) for i in range(12)])
+    else:
+        names = [rng.choice([b"%03x", b"n%d", b"%d"]) % i for i in range(rng.randint(255, 300))]
+        run = new(pool=names, value=200_000 if large else 20_000, namebytes=4096, names=400, entries=900)
+    for name in [] if short else rng.sample(run.pool, rng.choice([0, 0, 5, 255, len(run.pool)])):
+        run.say(("register", name))
+    run.open() if short or run.chance(0.6) else [run.open("list"), run.append(), run.open()]
+    for name in rng.sample(run.pool, min(len(run.pool), 14 if short else rng.choice([254, 255, 256, 257, 300]))):
+        scalar = run.scalar() if run.chance(0.1) else rng.choice([("null",), ("int8", 5), ("text", name)])
+        run.say(("append", name if run.inner() == "object" else None, scalar))
+    if run.chance(0.7):
+        sizes = (240, 250, 300) if short else (65_500, 66_000, 70_000) if large else (250, 300, 2000)
+        run.say(("append", run.name(), (rng.choice(["binary", "text", "string"]), b"w" * rng.choice(sizes))))
+    run.wind_up(rollback=0.02)
+    return run
+
+
+# ---------------------------------------------------------------- altered storage
+
+def near(rng, n, room):
+    choices = [n - 1, n + 1, n, 0, room, room + 1, rng.randint(0, room), 2**32 - 1, 2**32, 2**64 - 1]
+    return min(max(0, rng.choice(choices[:7] if rng.random() < 0.9 else choices)), 2**64 - 1)
+
+
+def poke_number(run):
+    r, b, rng = run.record(), run.session.builder, run.rng
+    rooms = {"value_used": b.value_room(), "names_used": b.names_room(), "namebytes_used": b.namebytes_room(),
+             "entries_used": b.entries_room(), "open": 64}
+    key = rng.choice(list(rooms))
+    run.say(("poke", key, near(rng, getattr(r, key), rooms[key])))
+
+
+def poke_container(run):
+    r, rng = run.record(), run.rng
+    if 0 < r.open <= 64:
+        i = rng.choice([r.open - 1, max(r.open - 2, 0), rng.randrange(r.open)])
+        key = rng.choice(("value", "names", "namebytes", "entries", "kind", "unique", "entry", "entry"))
+        if key == "kind":
+            word = (rng.choice(OBJECTS),)
+        elif key == "unique":
+            word = (rng.randrange(2),)
+        elif key == "entry":
+            word = rng.choice([("new",), ("replaced", rng.randrange(3), rng.randrange(8))])
+        else:
+            word = (near(rng, getattr(r.containers[i], key), getattr(r, key + "_used")),)
+        run.say(("poke", "container", i, key, *word))
+
+
+def poke_storage(run):
+    r, b, rng = run.record(), run.session.builder, run.rng
+    what = rng.choice(("value", "namebytes", "nameend", "entry", "entry"))
+    if what in ("value", "namebytes"):
+        at = rng.randrange(min(len(getattr(b.s, what)), 12))
+        run.say(("poke", what, at, rng.randbytes(1).hex() if rng.random() < 0.5 else "61"))
+    elif what == "nameend":
+        k = rng.randrange(min(max(r.names_used, 1), b.names_room()))
+        run.say(("poke", what, k, near(rng, b.s.nameends[k], min(r.namebytes_used, 99))))
+    else:
+        k = rng.randrange(min(max(r.entries_used, 1), b.entries_room()))
+        run.say(("poke", what, k, near(rng, rng.randrange(3), min(r.names_used, 99)), near(rng, 0, min(r.value_used, 99))))
+
+
+def poke_name(run):
+    """One more name, perhaps equal to one already there."""
+    r, b, rng = run.record(), run.session.builder, run.rng
+    name = rng.choice([b"a", b"b", b"", b"\xff"])
+    end = r.namebytes_used + len(name)
+    if r.names_used < b.names_room() and end <= b.namebytes_room():
+        run.say(("poke", "nameend", r.names_used, end))
+        if name:
+            run.say(("poke", "namebytes", r.namebytes_used, name.hex()))
+        run.say(("poke", "names_used", r.names_used + 1))
+        run.say(("poke", "namebytes_used", end))
+
+
+def poke_entry(run):
+    """One more entry, perhaps of an id already there."""
+    r, b, rng = run.record(), run.session.builder, run.rng
+    if r.entries_used < b.entries_room():
+        run.say(("poke", "entry", r.entries_used, rng.randint(0, min(r.names_used, 9)), rng.randint(0, min(r.value_used, 9))))
+        run.say(("poke", "entries_used", r.entries_used + 1))
+
+
+def poke_open(run):
+    """One more open container, at the used counts or a little before."""
+    r, rng = run.record(), run.rng
+    if r.open < 64:
+        marks = [max(0, n - rng.choice([0, 0, 0, 1])) for n in (r.value_used, r.names_used, r.namebytes_used, r.entries_used)]
+        entry = rng.choice([("new",), ("replaced", rng.randrange(3), rng.randrange(6))])
+        run.say(("poke", "container", r.open, "all", *marks, rng.choice(OBJECTS), rng.randrange(2), *entry))
+        run.say(("poke", "open", r.open + 1))
+
+
+def settle(run):
+    """Pokes all that a call may read, so that no answer rests on what document 01 leaves free."""
+    r, b = run.record(), run.session.builder
+    for i in range(r.open if r.open <= 64 else 0):
+        c = r.containers[i]
+        run.say(("poke", "container", i, "all", c.value, c.names, c.namebytes, c.entries, c.kind, int(c.unique), *c.entry))
+    for k in range(min(r.entries_used, b.entries_room())):
+        run.say(("poke", "entry", k, *b.s.entries[2 * k:2 * k + 2]))
+    for k in range(min(r.names_used, b.names_room())):
+        run.say(("poke", "nameend", k, b.s.nameends[k]))
+    data = bytes(b.s.namebytes[:r.namebytes_used])
+    if data:
+        run.say(("poke", "namebytes", 0, data.hex()))
+
+
+def altered(new, number, short):
+    """Record and storage overwritten between the calls: against the model alone."""
+    rng = new.rng
+    run = new(value=rng.choice([60, 120, 400]), namebytes=rng.choice([8, 30]), names=rng.choice([4, 12]),
+              pool=MIXED[:5], entries=rng.choice([5, 12, 25]), wrong=0.06)
+    for _ in range(rng.randint(1, 3)):
+        for _ in range(rng.randrange(9)):
+            run.step()
+        for _ in range(rng.choice([1, 1, 1, 2, 3])):
+            rng.choice([poke_number, poke_container, poke_storage, poke_name, poke_entry, poke_open,
+                        lambda run: run.say(("poke", rng.choice(("unique", "sorted", "finished")), rng.randrange(2)))])(run)
+        settle(run)
+        for _ in range(rng.randint(1, 4)):
+            run.step((4, 3, 3, 4, 1)) if run.chance(0.8) else run.anything()
+            if run.chance(0.3):
+                run.say(("dump",))
+    run.wind_up(rollback=0.4)
+    run.say(("dump",))
+    run.say(("dumpvalue",))
+    return run
+
+
+MAKERS = {f.__name__: f for f in (plain, deep, rollbacks, replaced, refusals, small, wide, altered)}
+SHARES = {"plain": 20, "deep": 15, "rollbacks": 17, "replaced": 15, "refusals": 12, "small": 15, "wide": 3, "altered": 8}
+
+
+class Maker:
+    """Makes runs for one seed, kind and number."""
+
+    def __init__(self, model, seed, kind, number):
+        self.model, self.rng = model, random.Random(f"{seed}:{kind}:{number}")
+        self.held = self.rng.random() < 0.97
+
+    def __call__(self, **settings):
+        return Run(self.model, self.rng, self.held, **settings)
+
+
+def make(model, seed, kind, number, short=False):
+    run = MAKERS[kind](Maker(model, seed, kind, number), number, short)
+    run.kind = kind
+    if not short and run.chance(0.2):
+        run.say(("dump",))
+        run.say(("dumpvalue",)) if run.peak["value"] < 2000 else None
+    return run

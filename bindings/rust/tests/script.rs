@@ -58,6 +58,13 @@ fn scan_listed() {
     assert!(listing.contains("\n  readings: list of 3\n    int16 4131\n"));
 }
 
+#[test]
+fn help() {
+    let (out, err, status) = run(&["--help"], "");
+    assert_eq!((&err[..], status), ("", 0));
+    assert!(out.starts_with("usage: variant-script ") && out.contains("\n    append [name=BYTES|-] SCALAR\n"));
+}
+
 /// One call that is none a line.
 const BAD: &str = "fnord
 append

@@ -1,10 +1,6 @@
 //! Answers a script of calls, one answer line a call, as the Python model of document 01 does.
 //!
-//!     variant-script [--listing] [FILE]
-//!
-//! reads FILE or standard input. With `--listing` an accepted finish is followed by its dictionary and value as an indented listing.
-//! At a line that is no call it says on standard error which line it is and what was expected, and ends with status 2; the answers to
-//! the lines before it are written, nothing after.
+//! `variant-script --help` says how they are written (help.txt).
 mod parse;
 mod poke;
 mod session;
@@ -26,12 +22,16 @@ fn main() -> ExitCode {
 
 fn run() -> Result<(), String> {
     let mut words: Vec<_> = std::env::args().skip(1).collect();
+    if words == ["--help"] {
+        print!("{}", include_str!("help.txt"));
+        return Ok(());
+    }
     let listing = words.first().is_some_and(|w| w == "--listing");
     words.drain(..usize::from(listing));
     let input: Box<dyn Read> = match &words[..] {
         [] => Box::new(io::stdin()),
         [file] if !file.starts_with('-') => Box::new(File::open(file).map_err(|e| format!("{file}: {e}"))?),
-        _ => return Err("usage: variant-script [--listing] [FILE]".into()),
+        _ => return Err("usage: variant-script [--listing] [FILE], or --help".into()),
     };
     let mut out = BufWriter::with_capacity(1 << 16, io::stdout().lock());
     let answered = answers(BufReader::with_capacity(1 << 16, input), &mut out, listing);

@@ -32,6 +32,12 @@ fn calls() {
 }
 
 #[test]
+fn spellings() {
+    let script = "new value=+1_0 namebytes=007\r\nappend double 0X_1f\rdumpvalue\r\r\n\tclose#nothing open\r";
+    assert_eq!(answers(script), "new\nok\nvalue 1c1f0000000000000000\nrefused 3\n");
+}
+
+#[test]
 fn pokes() {
     let script = "new\npoke container 0 all 0 0 0 0 object 1 replaced 7 8\npoke open 1\npoke nameend 0 1\npoke namebytes 0 61\n\
         poke names_used 1\npoke namebytes_used 1\npoke entry 0 0 0\npoke entries_used 1\ndump\nappend name=61 null\npoke open 65\ndump\nclose\n";

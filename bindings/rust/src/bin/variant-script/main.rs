@@ -43,19 +43,21 @@ fn run() -> Result<(), String> {
     }
 }
 
-/// The answer to each line, written out.
+/// The answer to each line, written out. A line ends with a line feed, a carriage return, or both.
 fn answers(mut input: impl BufRead, out: &mut impl Write, listing: bool) -> Result<(), String> {
     let mut session = Session::new(listing);
     let (mut line, mut answer) = (Vec::new(), String::new());
-    for number in 1.. {
-        line.clear();
-        if input.read_until(b'\n', &mut line).map_err(|e| e.to_string())? == 0 {
-            break;
-        }
-        answer.clear();
+    let mut number = 0;
+    while input.read_until(b'\n', &mut line).map_err(|e| e.to_string())? != 0 {
         let text = String::from_utf8_lossy(&line);
-        session.answer(&text, &mut answer).map_err(|expected| format!("line {number}: expected {expected}"))?;
-        out.write_all(answer.as_bytes()).map_err(|e| e.to_string())?;
+        let ended = text.strip_suffix('\n').unwrap_or(&text);
+        for text in ended.strip_suffix('\r').unwrap_or(ended).split('\r') {
+            number += 1;
+            answer.clear();
+            session.answer(text, &mut answer).map_err(|expected| format!("line {number}: expected {expected}"))?;
+            out.write_all(answer.as_bytes()).map_err(|e| e.to_string())?;
+        }
+        line.clear();
     }
     Ok(())
 }

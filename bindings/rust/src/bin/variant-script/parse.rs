@@ -3,36 +3,32 @@ use variant_writer::Variant;
 
 pub type Expected<T> = Result<T, String>;
 
-/// Digits as Python takes them: with single underscores between them.
-fn digits(word: &str) -> Option<String> {
-    let plain = word.split('_').all(|part| !part.is_empty() && part.bytes().all(|d| d.is_ascii_hexdigit()));
-    plain.then(|| word.replace('_', ""))
-}
-
-/// A whole number, with or without a sign.
-fn integer(word: &str) -> Option<i128> {
-    let negative = word.starts_with('-');
-    let digits = digits(word.strip_prefix(['+', '-']).unwrap_or(word))?;
-    if negative { format!("-{digits}") } else { digits }.parse().ok()
+/// A whole number in base 10 or 16 as Python takes it: a sign or none, then in base 16 `0x` or none, single underscores between digits.
+fn integer(word: &str, base: u32) -> Option<i128> {
+    let digits = word.strip_prefix(['+', '-']).unwrap_or(word);
+    let hexadecimal = digits.strip_prefix("0x").or(digits.strip_prefix("0X")).filter(|_| base == 16);
+    let digits = hexadecimal.map_or(digits, |d| d.strip_prefix('_').unwrap_or(d));
+    let plain = digits.split('_').all(|part| !part.is_empty() && part.bytes().all(|d| d.is_ascii_hexdigit()));
+    let sign = if word.starts_with('-') { "-" } else { "" };
+    i128::from_str_radix(&format!("{sign}{}", digits.replace('_', "")), base).ok().filter(|_| plain)
 }
 
 /// A number of so many bits, with a sign.
 fn signed(word: &str, bits: u32) -> Expected<i128> {
     let top = i128::MAX >> (128 - bits);
-    integer(word).filter(|n| (-top - 1..=top).contains(n)).ok_or_else(|| format!("a {bits}-bit number for {word:?}"))
+    integer(word, 10).filter(|n| (-top - 1..=top).contains(n)).ok_or_else(|| format!("a {bits}-bit number for {word:?}"))
 }
 
 /// A number from 0 to 2^64 - 1.
 pub fn unsigned(word: &str) -> Expected<usize> {
-    let n = integer(word).and_then(|n| n.try_into().ok());
+    let n = integer(word, 10).and_then(|n| n.try_into().ok());
     n.ok_or_else(|| format!("a number from 0 to 2^64 - 1 for {word:?}"))
 }
 
 /// A float's bits, in hexadecimal.
 fn bits(word: &str, size: u32) -> Expected<u64> {
-    let word = word.strip_prefix("0x").unwrap_or(word);
-    let n = digits(word).and_then(|d| u64::from_str_radix(&d, 16).ok());
-    n.filter(|n| n >> (size - 1) <= 1).ok_or_else(|| format!("{size} bits in hexadecimal for {word:?}"))
+    let n = integer(word, 16).filter(|n| n >> size == 0);
+    n.map(|n| n as u64).ok_or_else(|| format!("{size} bits in hexadecimal for {word:?}"))
 }
 
 /// HEX, or COUNTxHEX for HEX repeated.

@@ -3,23 +3,29 @@
 
     spellings.py WRITER MODEL [--seed S] [--runs N]
 
-WRITER is variant-script, MODEL the folder of model.py and script.py. A run is one random script: signs, underscores and leading
-zeros in numbers, `0x`, capitals, COUNTxHEX, tabs, comments, line ends of three kinds, pokes of all fields, words that are none.
-Numbers of `new`, `finish` and pokes are those of the grammar, 0 to 2^64 - 1. Every answer must be the model's; where the model
-cannot take a line, WRITER must stop there with status 2 and say which line it is.
+WRITER is variant-script, MODEL the folder of model.py and script.py. A run is one random script: signs, underscores
+and leading zeros in numbers, `0x`, capitals, COUNTxHEX, tabs, comments, line ends of three kinds, pokes of all
+fields, and now and then a line that is no call. Numbers of `new`, `finish` and pokes are those of the grammar, 0 to
+2^64 - 1. Every answer must be the model's; where the model cannot take a line, WRITER must stop there with status 2
+and say which line it is.
 """
 import argparse
 import random
 import subprocess
 import sys
 
-SIGNS = ("", "", "", "+", "-")
-LARGE = (255, 256, 2**32 - 1, 2**32, 2**63, 2**64 - 1)
+LARGE = (63, 64, 65, 255, 256, 2**32 - 1, 2**32, 2**63, 2**64 - 1)
+BITS = (7, 15, 31, 32, 63, 127, 128)
+NO_CALLS = ("close 1", "new size=1", "open tree", "call", "unique 2", "poke field 1", "poke container 64 value 0")
 
 
-def number(rng, top=9):
-    """A number of the storage."""
-    n = str(rng.choice([rng.randrange(top + 1), rng.randrange(top + 1), 63, 64, 65, rng.choice(LARGE)]))
+def seldom(rng, wrong, right):
+    return rng.choice(wrong) if rng.random() < 0.02 else rng.choice(right)
+
+
+def number(rng):
+    """A number of the storage, mostly a small one."""
+    n = str(rng.choice(LARGE) if rng.random() < 0.3 else rng.randrange(10))
     return rng.choice([n, n, n, "+" + n, "00" + n, n[0] + "_" + n[1:] if n[1:] else n])
 
 
@@ -34,56 +40,60 @@ def digits(rng, count):
 
 def some_bytes(rng):
     repeated = rng.choice(["0", "1", "3", "64", "+2", "00", "1_0"]) + "x" + digits(rng, rng.randrange(3))
-    if rng.random() < 0.02:
-        return rng.choice(["6", "6g", "1x2x3", "x61"])
-    return rng.choice([digits(rng, rng.randrange(5)), digits(rng, rng.randrange(5)), repeated])
+    return seldom(rng, ["6", "6g", "1x2x3", "x61"], [digits(rng, rng.randrange(5)), digits(rng, rng.randrange(5)), repeated])
 
 
 def scalar(rng, script):
-    kind = rng.choice(script.KINDS if rng.random() < 0.99 else ["scalar"])
-    whole = rng.choice(SIGNS) + rng.choice(["0", "5", "127", "0_1", "007", str(rng.getrandbits(rng.choice([7, 15, 31, 32, 63, 127, 128])))])
+    kind = seldom(rng, ["scalar"], script.KINDS)
+    whole = rng.choice(["", "", "", "+", "-"]) + rng.choice(["0", "127", "0_1", "007", str(rng.getrandbits(rng.choice(BITS)))])
     if kind in script.PLAIN:
         return kind
     if kind in script.INTEGERS:
         return f"{kind} {whole}"
     if kind in script.BITS:
-        return f"{kind} {rng.choice(['', '', '+', '-0', '0x', '0X', '0x_'])}{rng.choice(['0', '1f', 'FF', '3f800000', '1_f'])}"
+        return f"{kind} " + rng.choice(["", "", "+", "-0", "0x", "0X", "0x_"]) + rng.choice(["0", "1f", "FF", "3f800000", "1_f"])
     if kind in script.DECIMALS:
-        return f"{kind} {rng.choice(['0', '5', '38', '39', '+3', '255', '1_0'])} {whole}"
+        return f"{kind} " + rng.choice(["0", "5", "38", "39", "+3", "255", "1_0"]) + " " + whole
     if kind == "uuid":
-        return "uuid " + rng.choice([digits(rng, 16), digits(rng, 16), "16x61", "8x6162", "8x61"])
-    return f"{kind} {rng.choice(['', some_bytes(rng)])}"
+        return "uuid " + seldom(rng, ["8x61"], [digits(rng, 16), "16x61", "8x6162"])
+    return f"{kind} " + rng.choice(["", some_bytes(rng)])
 
 
 def poke(rng, model):
     n = [number(rng) for _ in range(6)]
-    kind, flag = rng.choice(["list", "object"] if rng.random() < 0.95 else ["tree"]), rng.choice("012")
-    entry = rng.choice(["new", f"replaced {n[4]} {n[5]}", "new 4 5"] if rng.random() < 0.95 else ["replaced"])
-    part = rng.choice([f"{rng.choice(model.CONTAINER_NUMBERS)} {n[0]}", f"kind {kind}", f"unique {flag}", f"entry {entry}",
-                       f"all {' '.join(n[:4])} {kind} {flag} {entry}"])
+    kind, flag = seldom(rng, ["tree"], ["list", "object"]), rng.choice("012")
+    entry = seldom(rng, ["replaced"], ["new", f"replaced {n[4]} {n[5]}", "new 4 5"])
+    mark = rng.choice(model.CONTAINER_NUMBERS)
+    part = rng.choice([f"{mark} {n[0]}", f"kind {kind}", f"unique {flag}", f"entry {entry}",
+                       f"all {n[0]} {n[1]} {n[2]} {n[3]} {kind} {flag} {entry}"])
+    near = rng.randrange(4)
     return "poke " + rng.choice([
         f"{rng.choice(model.RECORD_NUMBERS)} {n[0]}", f"{rng.choice(model.RECORD_MARKS)} {flag}",
-        f"container {rng.choice(['0', '1', '2', '+1', '63'])} {part}", f"container {rng.choice('01')} {part}",
-        f"{rng.choice(['value', 'namebytes'])} {rng.randrange(4)} {some_bytes(rng)}", f"nameend {rng.randrange(4)} {n[1]}",
-        f"entry {rng.randrange(3)} {n[1]} {n[2]}", *[rng.choice(["field 1", f"entry {n[0]} 0 0", "container 64 value 0"])] * (rng.random() < 0.1)])
+        f"container {rng.choice(['0', '0', '1', '1', '2', '+1', '63'])} {part}", f"container {near} {part}",
+        f"{rng.choice(['value', 'namebytes'])} {near} {some_bytes(rng)}", f"nameend {near} {n[0]}", f"entry {near} {n[0]} {n[1]}"])
 
 
 def line(rng, model, script):
     name = rng.choice(["", "", "- ", "name= ", "name=61 ", "name=62 ", f"name={some_bytes(rng)} "])
-    text = rng.choice([
-        *[f"append {name}{scalar(rng, script)}"] * 4, *[f"open {name}{rng.choice(['list', 'object'])}"] * 3, "register " + some_bytes(rng),
-        "register", "close", "close", "rollback", "unique " + rng.choice("01"), "finish", "finish out=" + size(rng), poke(rng, model),
-        poke(rng, model), "dump", "dumpvalue", "", "# nothing", *[rng.choice(["close 1", "new size=1", "open tree", "call", "unique 2"])] * (rng.random() < 0.1)])
-    return rng.choice([text, text, text, text + rng.choice([" # said", "#said", "\t", "  ", "\v", " \f"]), text.replace(" ", "\t ")])
+    appended, opened, poked = f"append {name}{scalar(rng, script)}", f"open {name}{rng.choice(['list', 'object'])}", poke(rng, model)
+    text = seldom(rng, NO_CALLS, [
+        appended, appended, appended, opened, opened, poked, poked, "register " + some_bytes(rng), "register", "close", "close",
+        "rollback", "unique " + rng.choice("01"), "finish", "finish out=" + size(rng), "dump", "dumpvalue", "", "# nothing"])
+    behind = rng.choice([" # said", "#said", "\t", "  ", "\v", " \f"])
+    return rng.choice([text, text, text, text + behind, text.replace(" ", "\t ")])
+
+
+def first_line(rng):
+    keys = rng.sample(["value", "namebytes", "names", "entries", "fill"], rng.randrange(6))
+    settings = [f"{key}={number(rng) if key == 'fill' else size(rng)}" for key in keys]
+    return " ".join(["new", *settings, rng.choice(["", "unique=1", "unique=2"])])
 
 
 def made(rng, model, script):
     """A script's lines, the model's answers, and the number of the line that the model cannot take, if any."""
-    keys = rng.sample(["value", "namebytes", "names", "entries", "fill"], rng.randrange(6))
-    settings = [f"{key}={number(rng) if key == 'fill' else size(rng)}" for key in keys]
     session, lines, answers = model.Session(), [], []
     for at in range(1, rng.randrange(2, 40)):
-        lines.append(line(rng, model, script) if at > 1 else " ".join(["new", *settings, rng.choice(["", "unique=1", "unique=2"])]))
+        lines.append(line(rng, model, script) if at > 1 else first_line(rng))
         try:
             call = script.parse_line(lines[-1])
             if call is not None:
@@ -91,6 +101,14 @@ def made(rng, model, script):
         except (ValueError, IndexError, KeyError):
             return lines, answers, at
     return lines, answers, None
+
+
+def same(writer, text, answers, bad):
+    """Whether the writer gives these answers and names the bad line, if any; and what it said."""
+    got = subprocess.run([writer], input=text.encode(), capture_output=True)
+    said = got.stderr.decode()
+    ended = said.startswith(f"variant-script: line {bad}: expected ") if bad else said == ""
+    return got.stdout.decode().splitlines() == answers and got.returncode == (2 if bad else 0) and ended, said
 
 
 def main():
@@ -108,13 +126,10 @@ def main():
         rng = random.Random(f"{args.seed}:{run}")
         lines, answers, bad = made(rng, model, script)
         end = rng.choice(["\n", "\r\n", "\r"])
-        text = "".join(one + end for one in lines)
-        got = subprocess.run([args.writer], input=text.encode(), capture_output=True)
-        said = got.stderr.decode().startswith(f"variant-script: line {bad}: expected ")
-        right = got.stdout.decode().splitlines() == answers and ((got.returncode, said) == (2, True) if bad else got.returncode == 0)
+        right, said = same(args.writer, "".join(one + end for one in lines), answers, bad)
         count, fell, differ = count + len(answers), fell + (bad is not None), differ + (not right)
         if not right and differ <= 3:
-            print(f"run {run}: the model stops at line {bad}; {got.returncode} {got.stderr.decode().strip()}", *lines, sep="\n    ")
+            print(f"run {run}: the model stops at line {bad}; the writer said {said!r}", *lines, sep="\n    ")
     print(f"seed {args.seed}: {args.runs} scripts, {count} answers, {fell} scripts with a bad line; {differ} scripts differ")
     return differ > 0
 

@@ -16,7 +16,7 @@ fn integer(word: &str, base: u32) -> Option<i128> {
 /// A number of so many bits, with a sign.
 fn signed(word: &str, bits: u32) -> Expected<i128> {
     let top = i128::MAX >> (128 - bits);
-    integer(word, 10).filter(|n| (-top - 1..=top).contains(n)).ok_or_else(|| format!("a {bits}-bit number for {word:?}"))
+    integer(word, 10).filter(|n| (-top - 1..=top).contains(n)).ok_or_else(|| format!("a number of {bits} bits, with a sign, for {word:?}"))
 }
 
 /// A number from 0 to 2^64 - 1.

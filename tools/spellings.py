@@ -79,7 +79,7 @@ def line(rng, model, script):
     text = seldom(rng, NO_CALLS, [
         appended, appended, appended, opened, opened, poked, poked, "register " + some_bytes(rng), "register", "close", "close",
         "rollback", "unique " + rng.choice("01"), "finish", "finish out=" + size(rng), "dump", "dumpvalue", "", "# nothing"])
-    behind = rng.choice([" # said", "#said", "\t", "  ", "\v", " \f"])
+    behind = rng.choice([" # said", "#said", "\t", "  ", "\v", " \f", "\x1c", "\u00a0"])
     return rng.choice([text, text, text, text + behind, text.replace(" ", "\t ")])
 
 

@@ -33,7 +33,7 @@ fn calls() {
 
 #[test]
 fn spellings() {
-    let script = "new value=+1_0 namebytes=007\r\nappend double 0X_1f\rdumpvalue\r\r\n\tclose#nothing open\r";
+    let script = "new value=+1_0 namebytes=007\r\nappend double 0X_1f\rdumpvalue\r\r\n\tclose\x1c#nothing open\r";
     assert_eq!(answers(script), "new\nok\nvalue 1c1f0000000000000000\nrefused 3\n");
 }
 

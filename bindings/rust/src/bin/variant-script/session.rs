@@ -19,7 +19,8 @@ impl Session {
 
     /// Makes the line's call and adds its answer line; of a line without a call, nothing.
     pub fn answer(&mut self, line: &str, out: &mut String) -> Expected<()> {
-        let words: Vec<&str> = line.split('#').next().unwrap_or("").split_whitespace().collect();
+        let said = line.split('#').next().unwrap_or("");
+        let words: Vec<&str> = said.split(blank).filter(|word| !word.is_empty()).collect();
         let Some((&verb, rest)) = words.split_first() else { return Ok(()) };
         if verb == "new" {
             self.start(settings(rest, &SETTINGS, [0, 4096, 1024, 64, 256, 0])?)?;
@@ -70,6 +71,11 @@ impl Session {
         }
         Ok(())
     }
+}
+
+/// What parts words, as Python has it: white space, and the four separators of ASCII.
+fn blank(c: char) -> bool {
+    c.is_whitespace() || ('\x1c'..='\x1f').contains(&c)
 }
 
 /// The words KEY=N over the default numbers.

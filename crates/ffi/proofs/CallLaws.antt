@@ -5,24 +5,35 @@ use mathlib.Core.List.{List}
 use mathlib.Core.Option.{Option}
 use Prim.Native.Nat.{ℕ, _-_, _<_, _≤_}
 use lib.Dec.{eqb}
-use lib.ListN.{set}
+use lib.ListN.{length, set}
 use borrow.Author.Tests.{eqb-true, eqb-false, eq-eqb, ne-eqb}
+use Rattle.encoding.specs.declared.slices.Placed.{Placed}
+use Rattle.encoding.specs.Slices.{Writes}
+use Rattle.value.specs.Scalar.{scalarBytes}
 use Rattle.metadata.specs.Names.{Name}
+use Rattle.run.specs.declared.Builder.{Builder}
 use Rattle.run.specs.declared.Container.{Container}
+use Rattle.run.specs.declared.ParentEntry.{ParentEntry}
 use Rattle.run.specs.declared.View.{View}
-use Rattle.run.specs.Record.{Storage, Call, openIn, uniqueness, finish, viewOf}
-use Rattle.run.specs.Table.{numberOf}
+use Rattle.run.specs.Record.{Storage, Call, Scalars, append, register, scalarOf, openIn, uniqueness, finish, viewOf}
+use Rattle.run.specs.Table.{badText, beyondRange, first, numberOf}
+use Rattle.table.specs.Decide.{enterRows, nameOf, stored}
+use Rattle.table.proofs.RowLaws.{ownScalar}
 use Rattle.run.specs.Run.{Fresh}
 use Rattle.run.specs.Step.{Outcome, step, after, containersAfter, marked}
 use Rattle.pieces.specs.declared.Moved.{Moved}
 use Rattle.pieces.specs.declared.Opened.{Opened}
 use Rattle.pieces.specs.declared.Ended.{Ended}
-use Rattle.pieces.specs.Pieces.{Leaves, Opens, Ends}
+use Rattle.pieces.specs.declared.enter.Entered.{Entered}
+use Rattle.pieces.specs.Pieces.{EntersBy, Leaves, Opens, Ends, childOf, entriesPut, parentPut}
+use Rattle.pieces.proofs.EnterLaws.{enter-clears}
+use Rattle.pieces.proofs.AppendLaws.{append-stays, append-writes}
+use Rattle.pieces.proofs.OpenLaws.{opens, opens-refused, registers}
 use Rattle.builder.specs.declared.Called.{Called}
 use Rattle.builder.specs.Calls.{answerNumber, Does}
 use Rattle.builder.proofs.CallLaws as builder
 use Rattle.builder.proofs.CallLaws.{answer-number}
-use Rattle.ffi.specs.Words.{builderOf, containersOf, countsOf, stateOf, DoesWords, FinishesWords, freshCounts, Puts}
+use Rattle.ffi.specs.Words.{builderOf, containersOf, countsOf, stateOf, DoesWords, EntersWords, FinishesWords, freshCounts, Puts}
 use Rattle.ffi.proofs.WordLaws.{containers-length}
 
 -- what the maker leaves is a fresh builder
@@ -54,6 +65,38 @@ does-moved ws l c {v} {r} {e} {n} {us} k p q w = go (eqb (numberOf (viewOf (buil
           kept = λ f. w .kept h;
         }
 
+-- ---- what is entered
+
+-- the counts are put back where the number is 0
+abbrev Put : Entered → List ℕ → List ℕ → Type 0
+Put e ws us = Puts (record { counts = e .counts; number = e .number }) (e .number) ws us
+
+puts-entered : {ws us : List ℕ} {l : Storage} {nm : Option Name} {into opens : Bool} {own size : ℕ} {e : Entered} {text ends : List ℕ} → EntersWords ws us l nm into opens own size e text ends → Put e ws us
+puts-entered w = record { number = refl; counts = w .counts; kept = w .kept }
+
+module _ (ws : List ℕ) (l : Storage) (nm : Option Name) (into opens : Bool) (own size : ℕ) {v : View} {e : Entered} {text ends : List ℕ} (p : v ≡ viewOf (builderOf ws))
+    (a : EntersBy v l nm opens size (first (enterRows v l nm into opens own size)) e text ends) where
+  pub enters-refused : (e .number ≡ 0 → ⊥) → EntersWords ws ws l nm into opens own size e text ends
+  enters-refused z = record { enters = rw p at a; counts = λ h. absurd (z h); kept = λ f. refl }
+
+  pub enters-done : {us : List ℕ} → e .number ≡ 0 → builderOf us ≡ record { containers = containersOf ws; counts = e .counts } → EntersWords ws us l nm into opens own size e text ends
+  enters-done z w = record { enters = rw p at a; counts = λ h. w; kept = λ f. absurd (f z) }
+
+-- an append, from what is entered
+module _ (ws : List ℕ) (l : Storage) (nm : Option Name) (x : Scalars) {own size : ℕ} {e : Entered} {us text ends : List ℕ} (o : own ≡ ownScalar (beyondRange x) (badText x))
+    (s : size ≡ length (scalarBytes (scalarOf x))) (w : EntersWords ws us l nm true false own size e text ends) where
+  pub does-refused : (e .number ≡ 0 → ⊥) → DoesWords (e .number) ws us (stored (l .value) text ends (l .entries)) (step (stateOf ws l) (append nm x))
+  does-refused z = does-moved ws l (append nm x) refl refl (append-stays x o s (w .enters) z) (puts-entered w)
+
+  pub does-appended : {p : Placed} {value entries : List ℕ} → e .number ≡ 0 → entries ≡ entriesPut e (l .entries) → Writes (countsOf ws .value) (scalarBytes (scalarOf x)) (l .value) p value
+      → DoesWords 0 ws us (stored value text ends entries) (step (stateOf ws l) (append nm x))
+  does-appended z g b = rw z at (does-moved ws l (append nm x) refl refl (append-writes x o s (w .enters) z g b) (puts-entered w))
+
+-- a name registered
+pub does-registered : (ws : List ℕ) (l : Storage) (name : Name) {e : Entered} {us text ends : List ℕ} → EntersWords ws us l (nameOf true name) false false 0 0 e text ends
+    → DoesWords (e .number) ws us (stored (l .value) text ends (l .entries)) (step (stateOf ws l) (register name))
+does-registered ws l name w = does-moved ws l (register name) refl refl (registers name (w .enters)) (puts-entered w)
+
 -- ---- from the call by value
 
 does-words : {x : Called} {e : Storage} {o : Outcome} {n : ℕ} {ws us : List ℕ} → Does x e o → n ≡ answerNumber (x .answer) → builderOf us ≡ x .builder
@@ -78,6 +121,21 @@ module _ (ws : List ℕ) (l : Storage) (nm : Option Name) (object : Bool) {v : V
   pub open-done : {us : List ℕ} {ks : List Container} → r .number ≡ 0 → ks ≡ set (containersOf ws) (v .counts .depth) (r .container)
       → builderOf us ≡ record { containers = ks; counts = r .counts } → DoesWords 0 ws us e (step (stateOf ws l) (openIn nm object))
   open-done h m w = does-words (builder.does-opened (builderOf ws) l nm object p q h refl) refl (w ∙ (rw (m, p) refl)) (λ f. absurd (f refl))
+
+-- an open, from what is entered
+module _ (ws : List ℕ) (l : Storage) (nm : Option Name) (object : Bool) {e : Entered} {us text ends : List ℕ} (w : EntersWords ws us l nm true true 0 0 e text ends) where
+  pub opens-stays : (e .number ≡ 0 → ⊥) → DoesWords (e .number) ws us (stored (l .value) text ends (l .entries)) (step (stateOf ws l) (openIn nm object))
+  opens-stays z = rw (w .kept z) (open-refused ws l nm object refl (opens-refused object (w .enters) z) z)
+
+  pub opens-deep : e .number ≡ 0 → countsOf ws .depth < 64
+  opens-deep z = enter-clears (viewOf (builderOf ws)) l nm true true 0 0 (sym (w .enters .number) ∙ z) .depth refl
+
+  pub opens-done : {entries xs : List ℕ} {p : ParentEntry} {k : Container} → e .number ≡ 0 → (p ≡ parentPut e (l .entries)) × (entries ≡ entriesPut e (l .entries)) → k ≡ childOf (countsOf ws) e p object
+      → builderOf xs ≡ record { containers = set (containersOf us) (countsOf ws .depth) k; counts = countsOf us } → DoesWords 0 ws xs (stored (l .value) text ends entries) (step (stateOf ws l) (openIn nm object))
+  opens-done z g c d =
+      let f : containersOf us ≡ containersOf ws = ap (λ (b : Builder). b .containers) (w .counts z) in
+      let h : countsOf us ≡ e .counts = ap (λ (b : Builder). b .counts) (w .counts z) in
+      open-done ws l nm object refl (opens object (w .enters) z g c) refl refl (d ∙ rw (f, h))
 
 -- the uniqueness mark
 module _ (ws : List ℕ) (l : Storage) (u : Bool) {v : View} {n : ℕ} (p : v ≡ viewOf (builderOf ws)) (q : (u : Bool) → n ≡ numberOf v l (uniqueness u)) where

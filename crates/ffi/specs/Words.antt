@@ -11,8 +11,14 @@ use Rattle.run.specs.declared.Container.{Container}
 use Rattle.run.specs.declared.Counts.{Counts}
 use Rattle.run.specs.declared.ParentEntry.{ParentEntry}
 use Rattle.run.specs.declared.ParentEntry.the-variants.{New, Replaced}
-use Rattle.run.specs.Record.{Storage, State}
+use Rattle.run.specs.Record.{Storage, State, viewOf}
 use Rattle.run.specs.Step.{Outcome}
+use mathlib.Core.Option.{Option}
+use Rattle.metadata.specs.Names.{Name}
+use Rattle.run.specs.Table.{first}
+use Rattle.table.specs.Decide.{enterRows}
+use Rattle.pieces.specs.declared.enter.Entered.{Entered}
+use Rattle.pieces.specs.Pieces.{EntersBy}
 use Rattle.pieces.specs.declared.Moved.{Moved}
 
 -- the word at place i
@@ -109,5 +115,11 @@ offsetOf (Replaced id offset) = offset
 -- a piece's number and counts put back: the counts only where the number is 0
 pub record Puts (r : Moved) (n : ℕ) (before after : List ℕ) : Type 0 where
   pub number : n ≡ r .number
+  pub counts : r .number ≡ 0 → builderOf after ≡ record { containers = containersOf before; counts = r .counts }
+  pub kept : (r .number ≡ 0 → ⊥) → after ≡ before
+
+-- what a register, an append or an open enters, and the words then
+pub record EntersWords (before after : List ℕ) (l : Storage) (nm : Option Name) (into opens : Bool) (own size : ℕ) (r : Entered) (text ends : List ℕ) : Type 0 where
+  pub enters : EntersBy (viewOf (builderOf before)) l nm opens size (first (enterRows (viewOf (builderOf before)) l nm into opens own size)) r text ends
   pub counts : r .number ≡ 0 → builderOf after ≡ record { containers = containersOf before; counts = r .counts }
   pub kept : (r .number ≡ 0 → ⊥) → after ≡ before

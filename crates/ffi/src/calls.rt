@@ -2,28 +2,41 @@
 use crate::WORDS;
 use crate::scalars::kind_of;
 use crate::scalars::variant_of;
+use crate::words::chain_of;
+use crate::words::counts_of;
+use crate::words::inner_of;
 use crate::words::moved;
+use crate::words::parent_of;
 use crate::words::put_container;
 use crate::words::put_counts;
 use crate::words::view_of;
-use pieces::append_bytes_over;
-use pieces::append_uuid_over;
-use pieces::append_value_over;
+use pieces::Entered;
+use pieces::child;
 use pieces::close_over;
+use pieces::enter_over;
 use pieces::finish_over;
-use pieces::open_over;
-use pieces::register;
+use pieces::note;
 use pieces::rollback_over;
 use run::Container;
 use run::Counts;
+use run::View;
+use table::row;
 use table::unique_number;
+use value::scalar::bytes_size;
+use value::scalar::variant_size;
+use value::scalar::write_bytes;
+use value::scalar::write_uuid;
+use value::scalar::write_variant;
+use value::variant::ill_formed;
+use value::variant::out_of_range;
 ghost use mathlib.Core.Path.{_≡_};
 ghost use mathlib.Core.Bool.{false, true};
+ghost use lib.ListN.{length};
 ghost use Rattle.run.specs.Record.{append as appendOf, bytes as bytesOf, close as closeOf, finish as finishOf, fixed, openIn, register as registerOf, rollBack, uniqueness, uuid as uuidOf};
 ghost use Rattle.run.specs.Step.{step};
 ghost use Rattle.table.specs.Decide.{nameOf, stored};
 ghost use Rattle.ffi.specs.Scalars.{kindOf, variantOf};
-ghost use Rattle.ffi.specs.Words.{DoesWords, FinishesWords, builderOf, containersOf, freshCounts, stateOf};
+ghost use Rattle.ffi.specs.Words.{DoesWords, EntersWords, FinishesWords, builderOf, containersOf, freshCounts, stateOf};
 
 // A fresh builder; children inherit the uniqueness mark. It sets the counts alone.
 #[no_mangle]
@@ -54,9 +67,20 @@ pub extern "C" fn variant_add_field_name(
 ) -> u8
     ensures { λ r. ⌜ DoesWords r (now (words .entry)) (now (words .exit)) (stored (now (value .entry)) (now (text .exit)) (now (ends .exit)) (now (entries .entry))) (step (stateOf (now (words .entry)) (stored (now (value .entry)) (now (text .entry)) (now (ends .entry)) (now (entries .entry)))) (registerOf (now (name .entry)))) ⌝ }
 {
-    let v = view_of(words);
-    let r = register(v, value, text, ends, entries, name);
-    moved(words, r)
+    let e = enter(
+        words,
+        value,
+        text,
+        ends,
+        entries,
+        true,
+        name,
+        false,
+        false,
+        0,
+        0,
+    );
+    e.number
 }
 
 // The innermost container closed.
@@ -109,10 +133,29 @@ pub extern "C" fn variant_append_value(
 ) -> u8
     ensures { λ r. ⌜ DoesWords r (now (words .entry)) (now (words .exit)) (stored (now (value .exit)) (now (text .exit)) (now (ends .exit)) (now (entries .exit))) (step (stateOf (now (words .entry)) (stored (now (value .entry)) (now (text .entry)) (now (ends .entry)) (now (entries .entry)))) (appendOf (nameOf named (now (name .entry))) (fixed (variantOf code z low scale)))) ⌝ }
 {
-    let v = view_of(words);
+    let c = counts_of(words);
     let x = variant_of(code, z, low, scale);
-    let r = append_value_over(v, value, text, ends, entries, named, name, x);
-    moved(words, r)
+    let size = variant_size(x);
+    let n = row(out_of_range(x), 7, 0);
+    let e = enter(
+        words,
+        value,
+        text,
+        ends,
+        entries,
+        named,
+        name,
+        true,
+        false,
+        n,
+        size,
+    );
+    if e.number != 0 {
+        return e.number;
+    }
+    note(e, entries);
+    write_variant(value, c.value, x);
+    0
 }
 
 // Bytes of kind 0, binary; 1, String; 2, short text; any other, plain text.
@@ -130,10 +173,29 @@ pub extern "C" fn variant_append_bytes(
 ) -> u8
     ensures { λ r. ⌜ DoesWords r (now (words .entry)) (now (words .exit)) (stored (now (value .exit)) (now (text .exit)) (now (ends .exit)) (now (entries .exit))) (step (stateOf (now (words .entry)) (stored (now (value .entry)) (now (text .entry)) (now (ends .entry)) (now (entries .entry)))) (appendOf (nameOf named (now (name .entry))) (bytesOf (kindOf kind) (now (bytes .entry))))) ⌝ }
 {
-    let v = view_of(words);
+    let c = counts_of(words);
     let k = kind_of(kind);
-    let r = append_bytes_over(v, value, text, ends, entries, named, name, k, bytes);
-    moved(words, r)
+    let size = bytes_size(k, bytes);
+    let n = row(ill_formed(k, bytes), 8, 0);
+    let e = enter(
+        words,
+        value,
+        text,
+        ends,
+        entries,
+        named,
+        name,
+        true,
+        false,
+        n,
+        size,
+    );
+    if e.number != 0 {
+        return e.number;
+    }
+    note(e, entries);
+    write_bytes(value, c.value, k, bytes);
+    0
 }
 
 #[no_mangle]
@@ -149,10 +211,28 @@ pub extern "C" fn variant_append_uuid(
 ) -> u8
     ensures { λ r. ⌜ DoesWords r (now (words .entry)) (now (words .exit)) (stored (now (value .exit)) (now (text .exit)) (now (ends .exit)) (now (entries .exit))) (step (stateOf (now (words .entry)) (stored (now (value .entry)) (now (text .entry)) (now (ends .entry)) (now (entries .entry)))) (appendOf (nameOf named (now (name .entry))) (uuidOf (now (uuid .entry))))) ⌝ }
 {
-    let v = view_of(words);
+    sixteen(uuid);
+    let c = counts_of(words);
     let u = *uuid;
-    let r = append_uuid_over(v, value, text, ends, entries, named, name, u);
-    moved(words, r)
+    let e = enter(
+        words,
+        value,
+        text,
+        ends,
+        entries,
+        named,
+        name,
+        true,
+        false,
+        0,
+        17,
+    );
+    if e.number != 0 {
+        return e.number;
+    }
+    note(e, entries);
+    write_uuid(value, c.value, u);
+    0
 }
 
 #[no_mangle]
@@ -197,16 +277,26 @@ fn new_container(
 ) -> u8
     ensures { λ r. ⌜ DoesWords r (now (words .entry)) (now (words .exit)) (stored (now (value .entry)) (now (text .exit)) (now (ends .exit)) (now (entries .exit))) (step (stateOf (now (words .entry)) (stored (now (value .entry)) (now (text .entry)) (now (ends .entry)) (now (entries .entry)))) (openIn (nameOf named (now (name .entry))) object)) ⌝ }
 {
-    let v = view_of(words);
-    let r = open_over(v, value, text, ends, entries, named, name, object);
-    let n = r.number;
-    if n != 0 {
-        return n;
+    let c = counts_of(words);
+    let e = enter(
+        words,
+        value,
+        text,
+        ends,
+        entries,
+        named,
+        name,
+        true,
+        true,
+        0,
+        0,
+    );
+    if e.number != 0 {
+        return e.number;
     }
-    let k = r.container;
-    let c = r.counts;
-    put_container(words, v.counts.depth, k);
-    put_counts(words, c);
+    let p = note(e, entries);
+    let k = child(c, e, p, object);
+    put_container(words, c.depth, k);
     0
 }
 
@@ -265,4 +355,64 @@ pub extern "C" fn variant_finish(
     put_counts(words, c);
     *written = r.written;
     0
+}
+
+// A register, an append or an open, up to its entry and its bytes: where its number is 0 the name is added and the counts are put.
+fn enter(
+    words: &mut [usize; WORDS],
+    value: &[u8],
+    text: &mut [u8],
+    ends: &mut [usize],
+    entries: &[usize],
+    named: bool,
+    name: &[u8],
+    into: bool,
+    opens: bool,
+    own: u8,
+    size: usize,
+) -> Entered
+    ensures { λ r. ⌜ EntersWords (now (words .entry)) (now (words .exit)) (stored (now (value .entry)) (now (text .entry)) (now (ends .entry)) (now (entries .entry))) (nameOf named (now (name .entry))) into opens own size r (now (text .exit)) (now (ends .exit)) ⌝ }
+{
+    let c = counts_of(words);
+    let k = inner_of(words, c.depth);
+    let p = parent_of(words, c.depth);
+    let h = chain_of(words, c.depth);
+    let v = View {
+        counts: c,
+        inner: k,
+        parent: p,
+        chain: h,
+    };
+    let e = enter_over(
+        v,
+        value,
+        text,
+        ends,
+        entries,
+        named,
+        name,
+        into,
+        opens,
+        own,
+        size,
+    );
+    if e.number != 0 {
+        return e;
+    }
+    let d = e.counts;
+    put_counts(words, d);
+    e
+}
+
+fn count(bytes: &[u8]) -> usize
+    ensures { λ r. ⌜ r ≡ length (now (bytes .entry)) ⌝ }
+{
+    bytes.len()
+}
+
+// That there are 16 is known of a slice of them.
+fn sixteen(uuid: &[u8; 16]) -> usize
+    ensures { λ r. ⌜ length (now (uuid .entry)) ≡ 16 ⌝ }
+{
+    count(uuid)
 }

@@ -127,7 +127,7 @@ pub(crate) fn put_container(words: &mut [usize; WORDS], d: usize, k: Container)
     words[p + 8] = word(k.unique);
 }
 
-fn counts_of(words: &[usize; WORDS]) -> Counts
+pub(crate) fn counts_of(words: &[usize; WORDS]) -> Counts
     ensures { λ r. ⌜ r ≡ countsOf (now (words .entry)) ⌝ }
 {
     let m = metadata::MetadataBuilder {
@@ -180,7 +180,7 @@ pub(crate) fn view_of(words: &[usize; WORDS]) -> View
     }
 }
 
-fn inner_of(words: &[usize; WORDS], d: usize) -> Container
+pub(crate) fn inner_of(words: &[usize; WORDS], d: usize) -> Container
     ensures { λ r. ⌜ r ≡ innermost (containersOf (now (words .entry))) d ⌝ }
 {
     if d == 0 {
@@ -189,7 +189,7 @@ fn inner_of(words: &[usize; WORDS], d: usize) -> Container
     container_at(words, d - 1)
 }
 
-fn parent_of(words: &[usize; WORDS], d: usize) -> Container
+pub(crate) fn parent_of(words: &[usize; WORDS], d: usize) -> Container
     ensures { λ r. ⌜ r ≡ parentOf (containersOf (now (words .entry))) d ⌝ }
 {
     if d < 2 {
@@ -199,7 +199,7 @@ fn parent_of(words: &[usize; WORDS], d: usize) -> Container
 }
 
 // Are at most 64 open, and does no starting mark fall from one to the next?
-fn chain_of(words: &[usize; WORDS], d: usize) -> bool
+pub(crate) fn chain_of(words: &[usize; WORDS], d: usize) -> bool
     ensures { λ r. ⌜ r ≡ chained (containersOf (now (words .entry))) d ⌝ }
 {
     if 64 < d {

@@ -1,11 +1,14 @@
 -- A name added where it is new, and the entry of the value that comes.
 use mathlib.Core.Path.{_≡_, refl, sym, _∙_, ap}
-use mathlib.Core.Bool.{Bool, true, false, _&&_, true≢false}
+use mathlib.Core.Bool.{Bool, true, false, cond, not, _&&_, true≢false}
 use mathlib.Core.List.{List}
 use mathlib.Core.Option.{Option, none, some}
-use Prim.Native.Nat.{ℕ, _+_, _*_, _<_, _≤_}
+use Prim.Native.Nat.{ℕ, _+_, _*_, _^_, _<_}
+use native.Mathlib.Omega.{arith}
 use lib.ListN.{length, set}
-use borrow.Author.Tests.{eq-eqb, ne-eqb, leb-false, lt-ltb, le-ltb}
+use lib.Dec.{ltb}
+use borrow.Author.Tests.{eq-eqb, ne-eqb, leb-false, leb-true, lt-ltb, not-false, not-true}
+use Rattle.encoding.specs.Slices.{counted, fits}
 use Rattle.metadata.specs.declared.MetadataBuilder.{MetadataBuilder}
 use Rattle.metadata.specs.declared.Added.{Added}
 use Rattle.metadata.specs.Names.{Name}
@@ -14,15 +17,17 @@ use Rattle.container.specs.declared.Noted.{Noted as Put}
 use Rattle.container.specs.Entries.{Notes, entryAt, roomFor}
 use Rattle.run.specs.declared.ParentEntry.the-variants.{New, Replaced}
 use Rattle.run.specs.declared.View.{View}
-use Rattle.run.specs.Record.{Storage, Call, register, isOpen, innerSize}
-use Rattle.run.specs.Table.{numberOf, held, live, liveUnder, namesFull, entriesFull}
-use Rattle.run.specs.Step.{countWith, dictionaryWith, endsWith, entriesWith, newContainer, parentWith, registered, textWith}
-use Rattle.run.proofs.Demand1.{number-none}
+use Rattle.run.specs.declared.Counts.{Counts}
+use Rattle.run.specs.Record.{Storage, Call, isOpen, innerSize, uniqueNow}
+use Rattle.run.specs.Table.{first, numberOf, held, live, liveUnder, namesFull, entriesFull}
+use Rattle.run.specs.Step.{dictionaryWith, endsWith, entriesWith, parentWith, textWith, withCounts}
 use Rattle.table.specs.declared.Field.{Field}
-use Rattle.table.specs.declared.Registers.{Registers as Answered}
-use Rattle.table.specs.Decide.{RegistersBy, fieldOf, fullBy, isNew, nameOf}
-use Rattle.pieces.specs.declared.enter.Noted.{Noted}
-use Rattle.pieces.specs.Pieces.{Enters, Leaves, Registers, entriesBy, noteBy}
+use Rattle.table.specs.declared.Decided.{Decided}
+use Rattle.table.specs.Decide.{Decides, enterRows, fieldOf, isNew, nameOf}
+use Rattle.table.proofs.RowLaws.{enter-late}
+use Rattle.table.proofs.ViewLaws.{both}
+use Rattle.pieces.specs.declared.enter.Entered.{Entered}
+use Rattle.pieces.specs.Pieces.{EntersBy, Leaves, Registers, entriesPut, oneMore, parentPut}
 
 -- ---- a call that is refused changes nothing
 
@@ -55,38 +60,32 @@ named-none : {v : View} {l : Storage} {name : Name} {new : Bool} {m : MetadataBu
     → new ≡ false → Registers new (v .counts .dictionary) (l .text) (l .ends) name m text ends → Named v l none m text ends
 named-none e r = record { dictionary = rw (r .metadata, e); textLeft = rw (r .textLeft, e); endsLeft = rw (r .endsLeft, e) }
 
-named-by : {v : View} {l : Storage} {name : Name} {new : Bool} {m : MetadataBuilder} {text ends : List ℕ} (named : Bool)
+pub named-by : {v : View} {l : Storage} {name : Name} {new : Bool} {m : MetadataBuilder} {text ends : List ℕ} (named : Bool)
     → new ≡ isNew v l (nameOf named name) → namesFull v l (nameOf named name) ≡ false → Registers new (v .counts .dictionary) (l .text) (l .ends) name m text ends
     → Named v l (nameOf named name) m text ends
 unfolding nameOf
 named-by true e f r = named-some e f r
 named-by false e f r = named-none e r
 
--- ---- its value's entry
+-- ---- the rows are clear
 
--- the live name's
-pub notes-live : (v : View) (f : Field) (es : List ℕ) {after : List ℕ} {at former : ℕ} → f .live ≡ true → at ≡ innerSize v
-    → (former ≡ entryAt es (f .place) .offset) × (after ≡ set es (2 * f .place + 1) at)
-    → (record { count = v .counts .entries; parent = Replaced (f .id) former } ≡ noteBy v f es) × (after ≡ entriesBy v f es)
-notes-live v f es e s r = (rw (e, r .0), rw (e, r .1, s))
+pub record Clears (v : View) (l : Storage) (nm : Option Name) (opens : Bool) (size : ℕ) : Type 0 where
+  pub depth : opens ≡ true → v .counts .depth < 64
+  pub names : namesFull v l nm ≡ false
+  pub entries : entriesFull v l nm ≡ false
+  pub room : fits (v .counts .value) size (length (l .value)) ≡ true
 
--- there is room for a new one
-pub entry-room : (v : View) (f : Field) (lent : ℕ) → fullBy v (f .live) lent ≡ false → f .live ≡ false → 0 < v .counts .depth → v .counts .entries < roomFor lent
-entry-room v f lent e p q = leb-false (roomFor lent) (v .counts .entries) (rw (p, lt-ltb 0 (v .counts .depth) q) at e)
+pub enter-clears : (v : View) (l : Storage) (nm : Option Name) (into opens : Bool) (own size : ℕ) → first (enterRows v l nm into opens own size) ≡ 0 → Clears v l nm opens size
+enter-clears v l nm into opens own size e =
+    let c = enter-late v l nm into opens own size e .1 .1 in
+    record {
+      depth = λ o. leb-false 64 (v .counts .depth) (rw o at (c .0));
+      names = c .1 .0;
+      entries = c .1 .1 .0;
+      room = not-false (fits (v .counts .value) size (length (l .value))) (c .1 .1 .1 .0);
+    }
 
-pub notes-new : (v : View) (f : Field) (es : List ℕ) {after : List ℕ} {at : ℕ} {r : Put} → fullBy v (f .live) (length es) ≡ false → f .live ≡ false → 0 < v .counts .depth → at ≡ innerSize v
-    → Notes es (v .counts .entries) (record { id = f .id; offset = at }) r after
-    → (record { count = v .counts .entries + 1; parent = New } ≡ noteBy v f es) × (after ≡ entriesBy v f es)
-notes-new v f es full e o s r =
-    let d = lt-ltb 0 (v .counts .depth) o in
-    let t = lt-ltb (v .counts .entries) (roomFor (length es)) (entry-room v f (length es) full e o) in
-    (rw (e, d), rw (e, d, r .entries, t, s))
-
--- none, where nothing is open
-pub notes-none : (v : View) (f : Field) (es : List ℕ) → f .live ≡ false → v .counts .depth ≤ 0 → (record { count = v .counts .entries; parent = New } ≡ noteBy v f es) × (es ≡ entriesBy v f es)
-notes-none v f es e o = let d = le-ltb 0 (v .counts .depth) o in (rw (e, d), rw (e, d))
-
--- entered as `step` has it
+-- ---- what is entered
 live-open : (v : View) (l : Storage) (nm : Option Name) → liveUnder v l nm ≡ true → isOpen v ≡ true
 live-open v l none e = absurd (true≢false (sym e))
 live-open v l (some n) e = go (isOpen v) (live v l n) e
@@ -95,56 +94,96 @@ live-open v l (some n) e = go (isOpen v) (live v l n) e
     go true b e = refl
     go false b e = e
 
-record Noting (v : View) (l : Storage) (nm : Option Name) : Type 0 where
-  pub count : noteBy v (fieldOf v l nm) (l .entries) .count ≡ countWith v l nm
-  pub parent : noteBy v (fieldOf v l nm) (l .entries) .parent ≡ parentWith v l nm
-  pub entries : entriesBy v (fieldOf v l nm) (l .entries) ≡ entriesWith v l nm
+-- a fresh entry has room
+fresh-room : (v : View) (l : Storage) (nm : Option Name) → entriesFull v l nm ≡ false → isOpen v ≡ true → liveUnder v l nm ≡ false → ltb (v .counts .entries) (roomFor (length (l .entries))) ≡ true
+fresh-room v l nm e p q = lt-ltb (v .counts .entries) (roomFor (length (l .entries))) (leb-false (roomFor (length (l .entries))) (v .counts .entries) (rw (p, q) at e))
 
-noting : (v : View) (l : Storage) (nm : Option Name) → Noting v l nm
-unfolding fieldOf
-noting v l nm = go (isOpen v) (liveUnder v l nm) refl refl
-  where
-    go : (a b : Bool) → isOpen v ≡ a → liveUnder v l nm ≡ b → Noting v l nm
-    go true true p q = record { count = rw (p, q); parent = rw (p, q); entries = rw (p, q) }
-    go true false p q = record { count = rw (p, q); parent = rw (p, q); entries = rw (p, q) }
-    go false false p q = record { count = rw (p, q); parent = rw (p, q); entries = rw (p, q) }
-    go false true p q = absurd (true≢false (sym (live-open v l nm q) ∙ p))
+field-of : {v : View} {l : Storage} {nm : Option Name} {n : ℕ} {d : Decided} → Decides n v l nm d → d .number ≡ 0 → d .field ≡ fieldOf v l nm
+field-of {n = n} a z = rw (a .field, eq-eqb n 0 (sym (a .number) ∙ z))
 
--- ---- both
+module _ {v : View} {l : Storage} {nm : Option Name} (opens : Bool) (size : ℕ) {n : ℕ} {d : Decided} {u : Bool} (a : Decides n v l nm d) (m : u ≡ uniqueNow v) where
+  pub entered-refused : (d .number ≡ 0 → ⊥)
+      → EntersBy v l nm opens size n (record { counts = v .counts; place = 0; id = 0; offset = 0; live = false; fresh = false; unique = u; number = d .number }) (l .text) (l .ends)
+  entered-refused z =
+      let z' = ne-eqb n 0 (λ p. z (a .number ∙ p)) in
+      let no : n ≡ 0 → ⊥ = λ p. z (a .number ∙ p) in
+      record { number = a .number; counts = rw z'; unique = m; textLeft = rw z'; endsLeft = rw z'; entries = λ p. absurd (no p); parent = λ p. absurd (no p) }
 
-pub enter-note : (v : View) (l : Storage) (nm : Option Name) {f : Field} → f ≡ fieldOf v l nm → entriesFull v l nm ≡ false → fullBy v (f .live) (length (l .entries)) ≡ false
-unfolding fieldOf
-enter-note v l nm e h = rw e h
+  module _ {b : MetadataBuilder} {text ends : List ℕ} {at place : ℕ} {fresh : Bool} {c : Counts} (z : d .number ≡ 0) (h : Named v l nm b text ends) (full : entriesFull v l nm ≡ false) (s : at ≡ innerSize v)
+      (o : fresh ≡ (isOpen v && not (d .field .live))) (p : place ≡ cond (d .field .live) (d .field .place) (v .counts .entries))
+      (k : c ≡ withCounts (v .counts) (v .counts .value + size) (oneMore fresh (v .counts .entries)) (oneMore opens (v .counts .depth)) b) where
+    abbrev entered : Entered
+    entered = record { counts = c; place = place; id = d .field .id; offset = at; live = d .field .live; fresh = fresh; unique = u; number = 0 }
 
-pub enters : {v : View} {l : Storage} {name : Name} {f : Field} {m : MetadataBuilder} {text ends entries : List ℕ} {n : Noted} (named : Bool)
-    → f ≡ fieldOf v l (nameOf named name) → namesFull v l (nameOf named name) ≡ false
-    → Registers (f .new) (v .counts .dictionary) (l .text) (l .ends) name m text ends → (n ≡ noteBy v f (l .entries)) × (entries ≡ entriesBy v f (l .entries))
-    → Enters v l (nameOf named name) (record { dictionary = m; count = n .count; parent = n .parent }) text ends entries
-unfolding newContainer fieldOf
-enters {v} {l} {name} {f} named e h r n =
-    let nm = nameOf named name in
-    let a = named-by named (ap (λ (g : Field). g .new) e) h r in
-    let b = noting v l nm in
-    record {
-      dictionary = a .dictionary;
-      count = rw (n .0, e) (b .count);
-      parent = rw (n .0, e) (b .parent);
-      textLeft = a .textLeft;
-      endsLeft = a .endsLeft;
-      entriesLeft = rw (n .1, e) (b .entries);
-    }
+    -- its entry: a new one, a live name's, or none at the top level
+    puts : (entriesPut entered (l .entries) ≡ entriesWith v l nm) × (parentPut entered (l .entries) ≡ parentWith v l nm)
+    unfolding fieldOf
+    puts = go (isOpen v) (liveUnder v l nm) refl refl
+      where
+        go : (t b : Bool) → isOpen v ≡ t → liveUnder v l nm ≡ b → (entriesPut entered (l .entries) ≡ entriesWith v l nm) × (parentPut entered (l .entries) ≡ parentWith v l nm)
+        go true false e q = (rw (o, p, field-of a z, s, e, q, fresh-room v l nm full e q), rw (field-of a z, q))
+        go false true e q = absurd (true≢false (sym (live-open v l nm q) ∙ e))
+        go true true e q = (rw (p, field-of a z, s, e, q), rw (p, field-of a z, q))
+        go false false e q = (rw (o, field-of a z, e, q), rw (field-of a z, q))
 
--- ---- a name registered
+    pub entered-done : EntersBy v l nm opens size n entered text ends
+    unfolding fieldOf
+    entered-done =
+        let e : n ≡ 0 = sym (a .number) ∙ z in
+        let z' = eq-eqb n 0 e in
+        record {
+          number = sym e;
+          counts = rw (z', k, o, field-of a z, h .dictionary);
+          unique = m;
+          textLeft = rw z' (h .textLeft);
+          endsLeft = rw z' (h .endsLeft);
+          entries = λ q. puts .0;
+          parent = λ q. puts .1;
+        }
 
-pub registers : {v : View} {l : Storage} {name : Name} {a : Answered} {m : MetadataBuilder} {text ends : List ℕ}
-    → RegistersBy (numberOf v l (register name)) v l name a → a .number ≡ 0 → Registers (a .new) (v .counts .dictionary) (l .text) (l .ends) name m text ends
-    → Leaves v l (register name)
-    (record { counts = record { value = v .counts .value; entries = v .counts .entries; depth = v .counts .depth; dictionary = m; unique = v .counts .unique; finished = v .counts .finished }; number = 0 })
-    (record { value = l .value; text = text; ends = ends; entries = l .entries })
-unfolding registered
-registers {v} {l} {name} a z r =
-    let n = sym (a .number) ∙ z in
-    let z' = eq-eqb (numberOf v l (register name)) 0 n in
-    let c = number-none v l (register name) .0 n in
-    let d = named-some {v = v} {l = l} (rw (a .new, z')) (c .1 .1 .1 .1 .0) r in
-    record { number = sym n; counts = rw (z', d .dictionary); storage = rw (z', d .textLeft, d .endsLeft) }
+-- ---- as the code has it
+
+module _ (v : View) (l : Storage) (named : Bool) (name : Name) (into opens : Bool) (own size : ℕ) {d : Decided} {u : Bool}
+    (a : Decides (first (enterRows v l (nameOf named name) into opens own size)) v l (nameOf named name) d) (m : u ≡ uniqueNow v) (z : d .number ≡ 0) where
+  clear : Clears v l (nameOf named name) opens size
+  clear = enter-clears v l (nameOf named name) into opens own size (sym (a .number) ∙ z)
+
+  -- of a fresh entry the name is not live
+  fresh-field : (isOpen v && not (d .field .live)) ≡ true → liveUnder v l (nameOf named name) ≡ false
+  unfolding fieldOf
+  fresh-field t = ap (λ (g : Field). g .live) (sym (field-of a z)) ∙ not-true (d .field .live) (both (isOpen v) (not (d .field .live)) t .1)
+
+  -- the counts then are numbers of the machine
+  pub enters-bounds : length (l .entries) < 2 ^ 64
+      → (v .counts .value + size < 2 ^ 63) × (((isOpen v && not (d .field .live)) ≡ true → v .counts .entries < 2 ^ 63) × (opens ≡ true → v .counts .depth < 2 ^ 63))
+  enters-bounds g = (used, (entry, λ o. let h = clear .depth o in omega arith))
+    where
+      used : v .counts .value + size < 2 ^ 63
+      used = let h = leb-true (v .counts .value + size) (counted (length (l .value))) (clear .room) in omega arith
+
+      entry : (isOpen v && not (d .field .live)) ≡ true → v .counts .entries < 2 ^ 63
+      entry t =
+          let b = both (isOpen v) (not (d .field .live)) t in
+          let h = leb-false (roomFor (length (l .entries))) (v .counts .entries) (rw (b .0, fresh-field t) at (clear .entries)) in
+          omega arith
+
+  pub enters : {b : MetadataBuilder} {text ends : List ℕ} {at place : ℕ} {c : Counts} → Registers (d .field .new) (v .counts .dictionary) (l .text) (l .ends) name b text ends → at ≡ innerSize v
+      → c ≡ withCounts (v .counts) (v .counts .value + size) (oneMore (isOpen v && not (d .field .live)) (v .counts .entries)) (oneMore opens (v .counts .depth)) b
+      → place ≡ cond (d .field .live) (d .field .place) (v .counts .entries)
+      → EntersBy v l (nameOf named name) opens size (first (enterRows v l (nameOf named name) into opens own size))
+      (record { counts = c; place = place; id = d .field .id; offset = at; live = d .field .live; fresh = isOpen v && not (d .field .live); unique = u; number = 0 }) text ends
+  unfolding fieldOf
+  enters r s k p = entered-done opens size a m z (named-by named (ap (λ (g : Field). g .new) (field-of a z)) (clear .names) r) (clear .entries) s refl p k
+
+-- ---- the entry put
+
+pub puts-live : (e : Entered) (es : List ℕ) {after : List ℕ} {former : ℕ} → e .live ≡ true → (former ≡ entryAt es (e .place) .offset) × (after ≡ set es (2 * e .place + 1) (e .offset))
+    → (Replaced (e .id) former ≡ parentPut e es) × (after ≡ entriesPut e es)
+puts-live e es t r = (rw (t, r .0), rw (t, r .1))
+
+pub puts-fresh : (e : Entered) (es : List ℕ) {after : List ℕ} {r : Put} → e .live ≡ false → e .fresh ≡ true → Notes es (e .place) (record { id = e .id; offset = e .offset }) r after
+    → (New ≡ parentPut e es) × (after ≡ entriesPut e es)
+puts-fresh e es t u r = (rw t, rw (t, u) (r .entries))
+
+pub puts-none : (e : Entered) (es : List ℕ) → e .live ≡ false → e .fresh ≡ false → (New ≡ parentPut e es) × (es ≡ entriesPut e es)
+puts-none e es t u = (rw t, rw (t, u))

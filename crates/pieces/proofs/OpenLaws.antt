@@ -1,58 +1,59 @@
--- An open that is carried out.
-use mathlib.Core.Path.{_≡_, sym, _∙_}
-use mathlib.Core.Bool.{Bool, false}
+-- A name registered and a container opened, from what is entered.
+use mathlib.Core.Path.{_≡_, refl, sym, _∙_, ap}
+use mathlib.Core.Bool.{Bool, true, false, cond}
 use mathlib.Core.List.{List}
-use mathlib.Core.Option.{Option}
-use Prim.Native.Nat.{ℕ, _+_, _<_}
-use borrow.Author.Tests.{leb-false, ne-eqb}
+use mathlib.Core.Option.{Option, some}
+use Prim.Native.Nat.{ℕ, _+_}
+use native.Mathlib.Omega.{arith}
+use lib.Dec.{eqb}
+use borrow.Author.Tests.{eq-eqb, eqb-true, ne-eqb}
 use Rattle.metadata.specs.Names.{Name}
+use Rattle.run.specs.declared.ParentEntry.{ParentEntry}
+use Rattle.run.specs.declared.Container.{Container}
 use Rattle.run.specs.declared.View.{View}
-use Rattle.run.specs.Record.{Storage, openIn, uniqueNow}
-use Rattle.run.specs.Table.{entriesFull, namesFull, numberOf}
-use Rattle.run.specs.Step.{newContainer, opened, withCounts}
+use Rattle.run.specs.Record.{Storage, openIn, register, isOpen}
+use Rattle.run.specs.Table.{first, numberOf}
+use Rattle.run.specs.Step.{newContainer, opened, registered}
 use Rattle.run.proofs.Demand1.{number-none}
-use Rattle.table.specs.declared.Decided.{Decided}
-use Rattle.table.specs.Decide.{Decides, fieldOf, stored}
+use Rattle.table.specs.Decide.{enterRows, nameOf, stored}
+use Rattle.table.proofs.RowLaws.{open-number, register-number}
 use Rattle.pieces.specs.declared.enter.Entered.{Entered}
-use Rattle.pieces.specs.Pieces.{Enters, Opens}
+use Rattle.pieces.specs.Pieces.{EntersBy, Leaves, Opens, childOf, entriesPut, parentPut}
 
--- refused
-pub opens-refused : {v : View} {l : Storage} {nm : Option Name} (object : Bool) {d : Decided} → Decides (numberOf v l (openIn nm object)) v l nm d → (d .number ≡ 0 → ⊥)
-    → Opens v l nm object (record { counts = v .counts; container = v .inner; number = d .number }) l
-opens-refused object {d} e q =
-    let z = rw (e .number) at (ne-eqb (d .number) 0 q) in
-    record { number = e .number; counts = rw z; container = rw z; storage = rw z }
+-- ---- a name registered
+pub registers : {v : View} {l : Storage} (name : Name) {e : Entered} {text ends : List ℕ} → EntersBy v l (nameOf true name) false 0 (first (enterRows v l (nameOf true name) false false 0 0)) e text ends
+    → Leaves v l (register name) (record { counts = e .counts; number = e .number }) (stored (l .value) text ends (l .entries))
+unfolding registered nameOf
+registers {v} {l} name {e} {text} {ends} a = go (eqb (numberOf v l (register name)) 0) refl
+  where
+    n : first (enterRows v l (some name) false false 0 0) ≡ numberOf v l (register name)
+    n = register-number v l name
 
--- what is known where it is carried out
-pub record Openable (v : View) (l : Storage) (nm : Option Name) (object : Bool) (d : Decided) : Type 0 where
-  pub number : numberOf v l (openIn nm object) ≡ 0
-  pub field : d .field ≡ fieldOf v l nm
-  pub depth : v .counts .depth < 64
-  pub names : namesFull v l nm ≡ false
-  pub entries : entriesFull v l nm ≡ false
+    go : (t : Bool) → eqb (numberOf v l (register name)) 0 ≡ t → Leaves v l (register name) (record { counts = e .counts; number = e .number }) (stored (l .value) text ends (l .entries))
+    go true z =
+        let o : isOpen v ≡ false = number-none v l (register name) .0 (eqb-true (numberOf v l (register name)) 0 z) .1 .1 .0 in
+        let w : v .counts .value + 0 ≡ v .counts .value = omega arith in
+        record { number = a .number ∙ n; counts = rw (a .counts, n, z, o, w); storage = rw (a .textLeft, a .endsLeft, n, z) }
+    go false z = record { number = a .number ∙ n; counts = rw (a .counts, n, z); storage = rw (a .textLeft, a .endsLeft, n, z) }
 
--- as the code finds it
-pub openable : {v : View} {l : Storage} {nm : Option Name} (object : Bool) {d : Decided} → Decides (numberOf v l (openIn nm object)) v l nm d → d .number ≡ 0 → Openable v l nm object d
-openable {v} {l} {nm} object {d} e q =
-    let z : numberOf v l (openIn nm object) ≡ 0 = sym (e .number) ∙ q in
-    let k = number-none v l (openIn nm object) .0 z in
-    let t = k .1 .1 .1 .1 .1 .1 in
-    record { number = z; field = rw z at (e .field); depth = leb-false 64 (v .counts .depth) (t .0); names = t .1 .0; entries = t .1 .1 .0 }
+-- ---- a container opened
+module _ {v : View} {l : Storage} {nm : Option Name} (object : Bool) {e : Entered} {text ends : List ℕ} (a : EntersBy v l nm true 0 (first (enterRows v l nm true true 0 0)) e text ends) where
+  rows : first (enterRows v l nm true true 0 0) ≡ numberOf v l (openIn nm object)
+  rows = open-number v l nm object
 
--- what it leaves
-pub opens : {v : View} {l : Storage} {nm : Option Name} {object : Bool} {d : Decided} {e : Entered} {text ends entries : List ℕ} {u : Bool} → Openable v l nm object d → Enters v l nm e text ends entries → u ≡ uniqueNow v
-    → Opens v l nm object
-    (record {
-      counts = withCounts (v .counts) (v .counts .value) (e .count) (v .counts .depth + 1) (e .dictionary);
-      container = record { value = v .counts .value; names = v .counts .dictionary .names; text = v .counts .dictionary .text; entries = e .count; parent = e .parent; object = object; unique = u };
-      number = 0;
-    })
-    (stored (l .value) text ends entries)
-unfolding newContainer opened
-opens k e u =
-    record {
-      number = sym (k .number);
-      counts = rw (k .number, e .count, e .dictionary);
-      container = rw (k .number, e .count, e .parent, u);
-      storage = rw (k .number, e .textLeft, e .endsLeft, e .entriesLeft);
-    }
+  pub opens-refused : (e .number ≡ 0 → ⊥) → Opens v l nm object (record { counts = e .counts; container = v .inner; number = e .number }) (stored (l .value) text ends (l .entries))
+  opens-refused z =
+      let n = a .number ∙ rows in
+      let z' = ne-eqb (numberOf v l (openIn nm object)) 0 (λ p. z (n ∙ p)) in
+      record { number = n; counts = rw (a .counts, rows, z'); container = rw z'; storage = rw (a .textLeft, a .endsLeft, rows, z') }
+
+  pub opens : {entries : List ℕ} {p : ParentEntry} {k : Container} → e .number ≡ 0 → (p ≡ parentPut e (l .entries)) × (entries ≡ entriesPut e (l .entries)) → k ≡ childOf (v .counts) e p object
+      → Opens v l nm object (record { counts = e .counts; container = k; number = 0 }) (stored (l .value) text ends entries)
+  unfolding newContainer opened
+  opens z g c =
+      let n = sym (a .number) ∙ z in
+      let m = sym rows ∙ n in
+      let z' = eq-eqb (numberOf v l (openIn nm object)) 0 m in
+      let w : v .counts .value + 0 ≡ v .counts .value = omega arith in
+      let k = rw (rows, z', w) at (a .counts) in
+      record { number = sym m; counts = rw (z', k); container = rw (z', c, k, g .0, a .parent n, a .unique); storage = rw (a .textLeft, a .endsLeft, rows, z', g .1, a .entries n) }

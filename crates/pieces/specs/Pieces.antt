@@ -13,22 +13,20 @@ use Rattle.metadata.specs.Names.{Name}
 use Rattle.metadata.specs.Calls.{added, hasRoom}
 use Rattle.container.specs.declared.Closed.{Closed}
 use Rattle.container.specs.declared.Frame.{Frame}
-use Rattle.container.specs.Entries.{entryAt, setEntry}
+use Rattle.container.specs.Entries.{entryAt, roomFor, setEntry}
 use Rattle.container.specs.Close.{closedNumber, closedAt, closes, fronted}
 use Rattle.run.specs.declared.Counts.{Counts}
 use Rattle.run.specs.declared.Container.{Container}
 use Rattle.run.specs.declared.ParentEntry.{ParentEntry}
 use Rattle.run.specs.declared.ParentEntry.the-variants.{New, Replaced}
 use Rattle.run.specs.declared.View.{View}
-use Rattle.run.specs.Record.{Storage, Call, openIn, finish, isOpen, innerSize}
+use Rattle.run.specs.Record.{Storage, Call, openIn, finish, isOpen, innerSize, uniqueNow}
 use Rattle.run.specs.Table.{appendRows, first, header, numberOf}
-use Rattle.run.specs.Step.{carriedOut, countWith, dictionaryOf, dictionaryWith, endsWith, entriesClosed, entriesWith, finished, newContainer, textWith, withCounts}
-use Rattle.table.specs.declared.Field.{Field}
+use Rattle.run.specs.Step.{carriedOut, countWith, dictionaryOf, dictionaryWith, endsWith, entriesClosed, entriesWith, finished, newContainer, parentWith, textWith, withCounts}
 use Rattle.pieces.specs.declared.Moved.{Moved}
 use Rattle.pieces.specs.declared.Opened.{Opened}
 use Rattle.pieces.specs.declared.Ended.{Ended}
 use Rattle.pieces.specs.declared.enter.Entered.{Entered}
-use Rattle.pieces.specs.declared.enter.Noted.{Noted}
 
 -- the number, the counts and the storage of a call
 pub record Leaves (v : View) (l : Storage) (c : Call) (r : Moved) (after : Storage) : Type 0 where
@@ -59,36 +57,37 @@ pub record Registers (new : Bool) (m : MetadataBuilder) (text ends : List ℕ) (
   pub textLeft : textAfter ≡ cond (adds new m text ends name) (write (m .text) name text) text
   pub endsLeft : endsAfter ≡ cond (adds new m text ends name) (set ends (m .names) (m .text + length name)) ends
 
--- ---- the entry of a field
-abbrev pub entriesBy : View → Field → List ℕ → List ℕ
-entriesBy v f es =
-    cond (f .live) (set es (2 * f .place + 1) (innerSize v))
-    (cond (isOpen v) (setEntry es (v .counts .entries) (record { id = f .id; offset = innerSize v })) es)
+-- ---- the entry of a value, as it is put: in the place of a live name's, or as a fresh one
+abbrev pub entriesPut : Entered → List ℕ → List ℕ
+entriesPut e es =
+    cond (e .live) (set es (2 * e .place + 1) (e .offset))
+    (cond (e .fresh) (cond (ltb (e .place) (roomFor (length es))) (setEntry es (e .place) (record { id = e .id; offset = e .offset })) es) es)
 
-abbrev pub noteBy : View → Field → List ℕ → Noted
-noteBy v f es =
-    cond (f .live) (record { count = v .counts .entries; parent = Replaced (f .id) (entryAt es (f .place) .offset) })
-    (cond (isOpen v) (record { count = v .counts .entries + 1; parent = New }) (record { count = v .counts .entries; parent = New }))
+abbrev pub parentPut : Entered → List ℕ → ParentEntry
+parentPut e es = cond (e .live) (Replaced (e .id) (entryAt es (e .place) .offset)) New
 
--- what a name and its entry leave, of a call that is carried out
-pub record Enters (v : View) (l : Storage) (nm : Option Name) (r : Entered) (text ends entries : List ℕ) : Type 0 where
-  pub dictionary : r .dictionary ≡ dictionaryWith v l nm
-  pub count : r .count ≡ countWith v l nm
-  pub parent : r .parent ≡ newContainer v l nm false .parent
-  pub textLeft : text ≡ textWith v l nm
-  pub endsLeft : ends ≡ endsWith v l nm
-  pub entriesLeft : entries ≡ entriesWith v l nm
+-- one more where it is so
+abbrev pub oneMore : Bool → ℕ → ℕ
+oneMore more n = cond more (n + 1) n
 
--- an append up to its scalar's bytes, which rows 7, 8 and the size stand for
-abbrev pub appendCounts : View → Storage → Option Name → ℕ → Counts
-appendCounts v l nm size = withCounts (v .counts) (v .counts .value + size) (countWith v l nm) (v .counts .depth) (dictionaryWith v l nm)
+-- the counts with a name, an entry, a value of that size and, of an open, a container more
+abbrev pub countsWith : View → Storage → Option Name → Bool → ℕ → Counts
+countsWith v l nm opens size = withCounts (v .counts) (v .counts .value + size) (countWith v l nm) (oneMore opens (v .counts .depth)) (dictionaryWith v l nm)
 
-pub record Appends (v : View) (l : Storage) (nm : Option Name) (beyond bad : Bool) (size : ℕ) (r : Moved) (text ends entries : List ℕ) : Type 0 where
-  pub number : r .number ≡ first (appendRows v l nm beyond bad size)
-  pub counts : r .counts ≡ cond (eqb (first (appendRows v l nm beyond bad size)) 0) (appendCounts v l nm size) (v .counts)
-  pub textLeft : text ≡ cond (eqb (first (appendRows v l nm beyond bad size)) 0) (textWith v l nm) (l .text)
-  pub endsLeft : ends ≡ cond (eqb (first (appendRows v l nm beyond bad size)) 0) (endsWith v l nm) (l .ends)
-  pub entriesLeft : entries ≡ cond (eqb (first (appendRows v l nm beyond bad size)) 0) (entriesWith v l nm) (l .entries)
+-- what a register, an append or an open of number n leaves, up to the entry and the value's bytes
+pub record EntersBy (v : View) (l : Storage) (nm : Option Name) (opens : Bool) (size n : ℕ) (r : Entered) (text ends : List ℕ) : Type 0 where
+  pub number : r .number ≡ n
+  pub counts : r .counts ≡ cond (eqb n 0) (countsWith v l nm opens size) (v .counts)
+  pub unique : r .unique ≡ uniqueNow v
+  pub textLeft : text ≡ cond (eqb n 0) (textWith v l nm) (l .text)
+  pub endsLeft : ends ≡ cond (eqb n 0) (endsWith v l nm) (l .ends)
+  pub entries : n ≡ 0 → entriesPut r (l .entries) ≡ entriesWith v l nm
+  pub parent : n ≡ 0 → parentPut r (l .entries) ≡ parentWith v l nm
+
+-- the container that opens, of the counts before and what was entered
+abbrev pub childOf : Counts → Entered → ParentEntry → Bool → Container
+childOf c e p object =
+    record { value = c .value; names = c .dictionary .names; text = c .dictionary .text; entries = e .counts .entries; parent = p; object = object; unique = e .unique }
 
 -- ---- the innermost's header put before its data
 abbrev pub frameOf : View → Frame

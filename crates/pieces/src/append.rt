@@ -1,9 +1,9 @@
 // Scalars appended, with or without a field name.
 use crate::Moved;
-use crate::enter::enter;
-use run::Counts;
+use crate::enter::enter_over;
+use crate::enter::note;
 use run::View;
-use table::append_number;
+use table::row;
 use value::scalar::bytes_size;
 use value::scalar::variant_size;
 use value::scalar::write_bytes;
@@ -16,7 +16,7 @@ use value::variant::out_of_range;
 ghost use mathlib.Core.Path.{_≡_};
 ghost use Rattle.run.specs.Record.{append as appendOf, bytes as bytesOf, fixed, uuid as uuidOf};
 ghost use Rattle.table.specs.Decide.{nameOf, stored};
-ghost use Rattle.pieces.specs.Pieces.{Appends, Leaves};
+ghost use Rattle.pieces.specs.Pieces.{Leaves};
 
 pub fn append_value_over(
     v: View,
@@ -31,7 +31,8 @@ pub fn append_value_over(
     ensures { λ r. ⌜ Leaves v (stored (now (value .entry)) (now (text .entry)) (now (ends .entry)) (now (entries .entry))) (appendOf (nameOf named (now (name .entry))) (fixed x)) r (stored (now (value .exit)) (now (text .exit)) (now (ends .exit)) (now (entries .exit))) ⌝ }
 {
     let size = variant_size(x);
-    let r = append(
+    let n = row(out_of_range(x), 7, 0);
+    let e = enter_over(
         v,
         value,
         text,
@@ -39,13 +40,20 @@ pub fn append_value_over(
         entries,
         named,
         name,
-        out_of_range(x),
+        true,
         false,
+        n,
         size,
     );
-    if r.number != 0 {
+    let c = e.counts;
+    let r = Moved {
+        counts: c,
+        number: e.number,
+    };
+    if e.number != 0 {
         return r;
     }
+    note(e, entries);
     write_variant(value, v.counts.value, x);
     r
 }
@@ -64,11 +72,29 @@ pub fn append_bytes_over(
     ensures { λ r. ⌜ Leaves v (stored (now (value .entry)) (now (text .entry)) (now (ends .entry)) (now (entries .entry))) (appendOf (nameOf named (now (name .entry))) (bytesOf kind (now (bytes .entry)))) r (stored (now (value .exit)) (now (text .exit)) (now (ends .exit)) (now (entries .exit))) ⌝ }
 {
     let size = bytes_size(kind, bytes);
-    let bad = ill_formed(kind, bytes);
-    let r = append(v, value, text, ends, entries, named, name, false, bad, size);
-    if r.number != 0 {
+    let n = row(ill_formed(kind, bytes), 8, 0);
+    let e = enter_over(
+        v,
+        value,
+        text,
+        ends,
+        entries,
+        named,
+        name,
+        true,
+        false,
+        n,
+        size,
+    );
+    let c = e.counts;
+    let r = Moved {
+        counts: c,
+        number: e.number,
+    };
+    if e.number != 0 {
         return r;
     }
+    note(e, entries);
     write_bytes(value, v.counts.value, kind, bytes);
     r
 }
@@ -85,30 +111,7 @@ pub fn append_uuid_over(
 ) -> Moved
     ensures { λ r. ⌜ Leaves v (stored (now (value .entry)) (now (text .entry)) (now (ends .entry)) (now (entries .entry))) (appendOf (nameOf named (now (name .entry))) (uuidOf uuid)) r (stored (now (value .exit)) (now (text .exit)) (now (ends .exit)) (now (entries .exit))) ⌝ }
 {
-    let r = append(v, value, text, ends, entries, named, name, false, false, 17);
-    if r.number != 0 {
-        return r;
-    }
-    write_uuid(value, v.counts.value, uuid);
-    r
-}
-
-// All of an append but the scalar's bytes, for which there is room where it is carried out.
-fn append(
-    v: View,
-    value: &[u8],
-    text: &mut [u8],
-    ends: &mut [usize],
-    entries: &mut [usize],
-    named: bool,
-    name: &[u8],
-    beyond: bool,
-    bad: bool,
-    size: usize,
-) -> Moved
-    ensures { λ r. ⌜ Appends v (stored (now (value .entry)) (now (text .entry)) (now (ends .entry)) (now (entries .entry))) (nameOf named (now (name .entry))) beyond bad size r (now (text .exit)) (now (ends .exit)) (now (entries .exit)) ⌝ }
-{
-    let d = append_number(
+    let e = enter_over(
         v,
         value,
         text,
@@ -116,29 +119,20 @@ fn append(
         entries,
         named,
         name,
-        beyond,
-        bad,
-        size,
+        true,
+        false,
+        0,
+        17,
     );
-    let c = v.counts;
-    if d.number != 0 {
-        return Moved {
-            counts: c,
-            number: d.number,
-        };
+    let c = e.counts;
+    let r = Moved {
+        counts: c,
+        number: e.number,
+    };
+    if e.number != 0 {
+        return r;
     }
-    let f = d.field;
-    let e = enter(v, value, f, text, ends, entries, named, name);
-    let m = e.dictionary;
-    Moved {
-        counts: Counts {
-            value: c.value + size,
-            entries: e.count,
-            depth: c.depth,
-            dictionary: m,
-            unique: c.unique,
-            finished: c.finished,
-        },
-        number: 0,
-    }
+    note(e, entries);
+    write_uuid(value, v.counts.value, uuid);
+    r
 }

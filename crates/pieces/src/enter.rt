@@ -1,5 +1,4 @@
 // A name given to a call, added where it is new, and the entry of the value that comes.
-use crate::Moved;
 use container::Entry;
 use container::put_entry;
 use container::replace_offset;
@@ -7,50 +6,125 @@ use metadata::MetadataBuilder;
 use run::Counts;
 use run::ParentEntry;
 use run::View;
-use table::Field;
+use table::enter_number;
 use table::less;
-use table::register_number;
+use table::unique_now;
 ghost use mathlib.Core.Path.{_≡_};
-ghost use mathlib.Core.Bool.{false};
-ghost use Prim.Native.Nat.{ℕ};
-ghost use mathlib.Core.List.{List};
-ghost use lib.ListN.{length};
-ghost use Rattle.run.specs.Record.{register as registerOf};
-ghost use Rattle.run.specs.Table.{entriesFull, namesFull};
-ghost use Rattle.table.specs.Decide.{fieldOf, fullBy, nameOf, stored};
-ghost use Rattle.pieces.specs.Pieces.{Enters, Leaves, Registers, entriesBy, noteBy};
+ghost use mathlib.Core.Bool.{cond, true};
+ghost use Prim.Native.Nat.{_+_, _^_, _<_};
+ghost use Rattle.run.specs.Step.{withCounts};
+ghost use Rattle.run.specs.Table.{first};
+ghost use Rattle.table.specs.Decide.{enterRows, nameOf, stored};
+ghost use Rattle.pieces.specs.Pieces.{EntersBy, Registers, entriesPut, oneMore, parentPut};
 
-pub fn register(
+// What a register, an append or an open leaves, up to the entry and the value's bytes: the number; the counts; the entry to be put, in the
+// place of a live name's or as a fresh one; and the uniqueness mark that a child inherits.
+pub struct Entered {
+    pub counts: Counts,
+    pub place: usize,
+    pub id: usize,
+    pub offset: usize,
+    pub live: bool,
+    pub fresh: bool,
+    pub unique: bool,
+    pub number: u8,
+}
+
+pub fn enter_over(
     v: View,
     value: &[u8],
     text: &mut [u8],
     ends: &mut [usize],
     entries: &[usize],
+    named: bool,
     name: &[u8],
-) -> Moved
-    ensures { λ r. ⌜ Leaves v (stored (now (value .entry)) (now (text .entry)) (now (ends .entry)) (now (entries .entry))) (registerOf (now (name .entry))) r (stored (now (value .entry)) (now (text .exit)) (now (ends .exit)) (now (entries .entry))) ⌝ }
+    into: bool,
+    opens: bool,
+    own: u8,
+    size: usize,
+) -> Entered
+    ensures { λ r. ⌜ EntersBy v (stored (now (value .entry)) (now (text .entry)) (now (ends .entry)) (now (entries .entry))) (nameOf named (now (name .entry))) opens size (first (enterRows v (stored (now (value .entry)) (now (text .entry)) (now (ends .entry)) (now (entries .entry))) (nameOf named (now (name .entry))) into opens own size)) r (now (text .exit)) (now (ends .exit)) ⌝ }
 {
-    let d = register_number(v, value, text, ends, entries, name);
+    let d = enter_number(
+        v,
+        value,
+        text,
+        ends,
+        entries,
+        named,
+        name,
+        into,
+        opens,
+        own,
+        size,
+    );
     let c = v.counts;
+    let u = unique_now(v);
     if d.number != 0 {
-        return Moved {
+        return Entered {
             counts: c,
+            place: 0,
+            id: 0,
+            offset: 0,
+            live: false,
+            fresh: false,
+            unique: u,
             number: d.number,
         };
     }
+    let f = d.field;
     let m = c.dictionary;
-    let next = with_name(m, text, ends, d.new, name);
-    Moved {
-        counts: Counts {
-            value: c.value,
-            entries: c.entries,
-            depth: c.depth,
-            dictionary: next,
-            unique: c.unique,
-            finished: c.finished,
-        },
+    let next = with_name(m, text, ends, f.new, name);
+    let at = less(c.value, v.inner.value);
+    let fresh = (0 < c.depth) & !f.live;
+    let k = counts_with(c, size, fresh, opens, next);
+    Entered {
+        counts: k,
+        place: place_of(f.live, f.place, c.entries),
+        id: f.id,
+        offset: at,
+        live: f.live,
+        fresh: fresh,
+        unique: u,
         number: 0,
     }
+}
+
+// The counts with `size` value bytes more, an entry more where it is fresh, a container more where one opens, and that dictionary.
+fn counts_with(c: Counts, size: usize, fresh: bool, opens: bool, m: MetadataBuilder) -> Counts
+    requires { ⌜ c .value + size < 2 ^ 63 ⌝ }
+    requires { ⌜ (fresh ≡ true → c .entries < 2 ^ 63) ⌝ }
+    requires { ⌜ (opens ≡ true → c .depth < 2 ^ 63) ⌝ }
+    ensures { λ r. ⌜ r ≡ withCounts c (c .value + size) (oneMore fresh (c .entries)) (oneMore opens (c .depth)) m ⌝ }
+{
+    Counts {
+        value: c.value + size,
+        entries: one_more(fresh, c.entries),
+        depth: one_more(opens, c.depth),
+        dictionary: m,
+        unique: c.unique,
+        finished: c.finished,
+    }
+}
+
+fn one_more(more: bool, n: usize) -> usize
+    requires { ⌜ (more ≡ true → n < 2 ^ 63) ⌝ }
+    ensures { λ r. ⌜ r ≡ oneMore more n ⌝ }
+{
+    if more {
+        return n + 1;
+    }
+    n
+}
+
+// A live name's place, or the next free one.
+fn place_of(live: bool, place: usize, next: usize) -> usize
+    ensures { λ r. ⌜ r ≡ cond live place next ⌝ }
+{
+    if live {
+        return place;
+    }
+    next
 }
 
 // The second half of the Rust's `upsert_field_name`.
@@ -70,74 +144,24 @@ fn with_name(
     m
 }
 
-// What entering leaves in the record: the dictionary, how many entries are used, and how the entry came about.
-pub(crate) struct Entered {
-    pub dictionary: MetadataBuilder,
-    pub count: usize,
-    pub parent: ParentEntry,
-}
-
-pub(crate) struct Noted {
-    pub count: usize,
-    pub parent: ParentEntry,
-}
-
-pub(crate) fn enter(
-    v: View,
-    value: &[u8],
-    f: Field,
-    text: &mut [u8],
-    ends: &mut [usize],
-    entries: &mut [usize],
-    named: bool,
-    name: &[u8],
-) -> Entered
-    requires { ⌜ f ≡ fieldOf v (stored (now value) (now text) (now ends) (now entries)) (nameOf named (now name)) ⌝ }
-    requires { ⌜ namesFull v (stored (now value) (now text) (now ends) (now entries)) (nameOf named (now name)) ≡ false ⌝ }
-    requires { ⌜ entriesFull v (stored (now value) (now text) (now ends) (now entries)) (nameOf named (now name)) ≡ false ⌝ }
-    ensures { λ r. ⌜ Enters v (stored (now (value .entry)) (now (text .entry)) (now (ends .entry)) (now (entries .entry))) (nameOf named (now (name .entry))) r (now (text .exit)) (now (ends .exit)) (now (entries .exit)) ⌝ }
+// The entry put; how it came about.
+pub fn note(e: Entered, entries: &mut [usize]) -> ParentEntry
+    ensures { λ r. ⌜ (r ≡ parentPut e (now (entries .entry))) × (now (entries .exit) ≡ entriesPut e (now (entries .entry))) ⌝ }
 {
-    let m = v.counts.dictionary;
-    let e = note(v, f, entries);
-    let next = with_name(m, text, ends, f.new, name);
-    let p = e.parent;
-    Entered {
-        dictionary: next,
-        count: e.count,
-        parent: p,
-    }
-}
-
-// The entry of a value that starts at the used end: the live name's, or a new one in an open container.
-fn note(v: View, f: Field, entries: &mut [usize]) -> Noted
-    requires { ⌜ fullBy v (f .live) (length (now entries)) ≡ false ⌝ }
-    ensures { λ r. ⌜ (r ≡ noteBy v f (now (entries .entry))) × (now (entries .exit) ≡ entriesBy v f (now (entries .entry))) ⌝ }
-{
-    let n = v.counts.entries;
-    let at = less(v.counts.value, v.inner.value);
-    if f.live {
-        let former = replace_offset(entries, f.place, at);
-        return Noted {
-            count: n,
-            parent: ParentEntry::Replaced {
-                id: f.id,
-                offset: former,
-            },
+    if e.live {
+        let former = replace_offset(entries, e.place, e.offset);
+        return ParentEntry::Replaced {
+            id: e.id,
+            offset: former,
         };
     }
-    if 0 < v.counts.depth {
-        let e = Entry {
-            id: f.id,
-            offset: at,
+    if e.fresh {
+        let n = Entry {
+            id: e.id,
+            offset: e.offset,
         };
-        put_entry(entries, n, e);
-        return Noted {
-            count: n + 1,
-            parent: ParentEntry::New,
-        };
+        put_entry(entries, e.place, n);
+        return ParentEntry::New;
     }
-    Noted {
-        count: n,
-        parent: ParentEntry::New,
-    }
+    ParentEntry::New
 }

@@ -1,17 +1,48 @@
-// Containers opened, and the uniqueness mark of the innermost.
+// Names registered, and containers opened.
+use crate::Moved;
 use crate::Opened;
-use crate::enter::enter;
+use crate::enter::Entered;
+use crate::enter::enter_over;
+use crate::enter::note;
 use run::Container;
 use run::Counts;
+use run::ParentEntry;
 use run::View;
-use table::open_number;
-use table::unique_now;
-use table::unique_number;
 ghost use mathlib.Core.Path.{_≡_};
-ghost use mathlib.Core.Bool.{false, true};
-ghost use Rattle.run.specs.Record.{openIn, uniqueness};
+ghost use Rattle.run.specs.Record.{openIn};
+ghost use Rattle.run.specs.Record.{register as registerOf};
 ghost use Rattle.table.specs.Decide.{nameOf, stored};
-ghost use Rattle.pieces.specs.Pieces.{Opens};
+ghost use Rattle.pieces.specs.Pieces.{Leaves, Opens, childOf};
+
+pub fn register(
+    v: View,
+    value: &[u8],
+    text: &mut [u8],
+    ends: &mut [usize],
+    entries: &[usize],
+    name: &[u8],
+) -> Moved
+    ensures { λ r. ⌜ Leaves v (stored (now (value .entry)) (now (text .entry)) (now (ends .entry)) (now (entries .entry))) (registerOf (now (name .entry))) r (stored (now (value .entry)) (now (text .exit)) (now (ends .exit)) (now (entries .entry))) ⌝ }
+{
+    let e = enter_over(
+        v,
+        value,
+        text,
+        ends,
+        entries,
+        true,
+        name,
+        false,
+        false,
+        0,
+        0,
+    );
+    let c = e.counts;
+    Moved {
+        counts: c,
+        number: e.number,
+    }
+}
 
 pub fn open_over(
     v: View,
@@ -25,39 +56,37 @@ pub fn open_over(
 ) -> Opened
     ensures { λ r. ⌜ Opens v (stored (now (value .entry)) (now (text .entry)) (now (ends .entry)) (now (entries .entry))) (nameOf named (now (name .entry))) object r (stored (now (value .entry)) (now (text .exit)) (now (ends .exit)) (now (entries .exit))) ⌝ }
 {
-    let d = open_number(v, value, text, ends, entries, named, name);
-    let c = v.counts;
-    let inner = v.inner;
-    if d.number != 0 {
+    let e = enter_over(v, value, text, ends, entries, named, name, true, true, 0, 0);
+    let c = e.counts;
+    if e.number != 0 {
+        let inner = v.inner;
         return Opened {
             counts: c,
             container: inner,
-            number: d.number,
+            number: e.number,
         };
     }
-    let f = d.field;
-    let m = c.dictionary;
-    let e = enter(v, value, f, text, ends, entries, named, name);
-    let p = e.parent;
-    let next = e.dictionary;
+    let p = note(e, entries);
+    let before = v.counts;
     Opened {
-        counts: Counts {
-            value: c.value,
-            entries: e.count,
-            depth: c.depth + 1,
-            dictionary: next,
-            unique: c.unique,
-            finished: c.finished,
-        },
-        container: Container {
-            value: c.value,
-            names: m.names,
-            text: m.text,
-            entries: e.count,
-            parent: p,
-            object: object,
-            unique: unique_now(v),
-        },
+        counts: c,
+        container: child(before, e, p, object),
         number: 0,
+    }
+}
+
+// The container that opens: its starting marks are the counts before its own name, and of entries those after its own entry.
+pub fn child(before: Counts, e: Entered, parent: ParentEntry, object: bool) -> Container
+    ensures { λ r. ⌜ r ≡ childOf before e parent object ⌝ }
+{
+    let m = before.dictionary;
+    Container {
+        value: before.value,
+        names: m.names,
+        text: m.text,
+        entries: e.counts.entries,
+        parent: parent,
+        object: object,
+        unique: e.unique,
     }
 }

@@ -13,12 +13,12 @@ use Rattle.container.specs.declared.Search.{Search}
 use Rattle.container.specs.Entries.{Searches, roomFor}
 use Rattle.run.specs.declared.ParentEntry.the-variants.{New, Replaced}
 use Rattle.run.specs.declared.View.{View}
-use Rattle.run.specs.Record.{Storage, register, close, rollBack, uniqueness, isOpen, inObject, innerSize, parentSize}
+use Rattle.run.specs.Record.{Storage, close, rollBack, uniqueness, isOpen, inObject, innerSize, parentSize}
 use Rattle.run.specs.Damage.{unchained, fallenEnds, misplacedInner, misplacedParent, damagedParent}
 use Rattle.run.specs.Table.{first, rows, numberOf, held}
 use Rattle.table.specs.declared.numbers.Parent.{Parent}
 use Rattle.table.specs.declared.lookup.Known.{Known}
-use Rattle.table.specs.Decide.{ClosesBy, ParentOf, RegistersBy, Undoes, brokenOf, finishBy, toldBy}
+use Rattle.table.specs.Decide.{ClosesBy, ParentOf, Undoes, brokenOf, finishBy}
 use Rattle.table.proofs.ViewLaws.{both}
 pub use Rattle.table.proofs.ViewLaws.{broken-number, broken-close, damaged-none, entries-within, inner-within, ends-read, range-within, found-before, none-before}
 
@@ -90,38 +90,6 @@ module _ (v : View) (l : Storage) (out : List ℕ) {n : ℕ} (unbroken : brokenO
   finish-late e =
       let z : eqb (lateOf v) 0 ≡ false = ne-eqb (lateOf v) 0 (λ q. e (by ∙ q)) in
       rw (z, ends-read v l unbroken, damaged-none v l (fallenEnds v l) unbroken, by)
-
--- ---- the rows of a name to register, and its answer
-
--- rows 2 and 4 before a number x: only where all are 0 does the mark count
-late : (f o : Bool) (x : ℕ) (p q : Bool) → (eqb x 0 && p) ≡ cond (eqb x 0) q false → (eqb (cond f 2 (cond o 4 x)) 0 && p) ≡ cond (eqb (cond f 2 (cond o 4 x)) 0) q false
-late true o x p q e = refl
-late false true x p q e = refl
-late false false x p q e = e
-
--- by what the look-up and the rows ask: the ends are intact, finished, open, the name is UTF-8, held, has room
-register-cases : (i f o u h r : Bool) (at next : ℕ) (k : Told) (n : ℕ)
-    → k ≡ cond (not i) (refused 1) (cond (not u) (refused 9) (cond h (record { number = 0; id = at; new = false }) (cond r (record { number = 0; id = next; new = true }) (refused 12))))
-    → n ≡ cond (eqb (k .number) 1) 1 (cond f 2 (cond o 4 (k .number)))
-    → (let m : ℕ = cond (not i) 1 (cond f 2 (cond o 4 (cond (not u) 9 (cond (not h && not r) 12 0)))) in
-    (n ≡ m) × ((eqb n 0 && k .new) ≡ cond (eqb m 0) (not h) false))
-register-cases false f o u h r at next k n e q = (rw (q, e), rw (q, e))
-register-cases true f o false h r at next k n e q = (rw (q, e), rw (q, e) (late f o 9 false (not h) refl))
-register-cases true f o true true r at next k n e q = (rw (q, e), rw (q, e) (late f o 0 false false refl))
-register-cases true f o true false true at next k n e q = (rw (q, e), rw (q, e) (late f o 0 true true refl))
-register-cases true f o true false false at next k n e q = (rw (q, e), rw (q, e) (late f o 12 false true refl))
-
--- the number, and whether the name is new
-pub registers : (v : View) (l : Storage) (name : Name) (k : Known) (n : ℕ) → brokenOf v l ≡ false → toldBy k ≡ lookup (v .counts .dictionary) (l .text) (l .ends) name
-    → n ≡ cond (eqb (k .number) 1) 1 (cond (v .counts .finished) 2 (cond (isOpen v) 4 (k .number)))
-    → RegistersBy (numberOf v l (register name)) v l name (record { number = n; new = eqb n 0 && k .new })
-unfolding first numberOf lookup
-registers v l name k n e q r =
-    let m = v .counts .dictionary in
-    let c = register-cases (intact m (l .text) (l .ends)) (v .counts .finished) (isOpen v) (utf8 name) (held v l name) (hasRoom m (l .text) (l .ends) name) (place name (namesOf m (l .text) (l .ends))) (m .names) (toldBy k) n q r in
-    let d = damaged-none v l (fallenEnds v l) e in
-    let x = sym (ends-read v l e) in
-    record { number = rw (d, x) (c .0); new = rw (d, x) (c .1) }
 
 -- ---- the rows of a uniqueness mark to set
 

@@ -1,36 +1,59 @@
--- The rows, from what is known of a name.
+-- The rows of a register, an append and an open, from what is known of a name; and what they are for each of these calls.
 use mathlib.Core.Path.{_≡_, refl, sym, _∙_, ap}
-use mathlib.Core.Bool.{Bool, true, false, cond, not, _&&_, true≢false}
+use mathlib.Core.Bool.{Bool, true, false, cond, not, _&&_, _||_, true≢false, and-false, or-false}
 use mathlib.Core.List.{List, _∷_}
-use mathlib.Core.Option.{Option}
-use Prim.Native.Nat.{ℕ, suc}
+use mathlib.Core.Option.{Option, none, some}
+use Prim.Native.Nat.{ℕ, zero, suc, _+_}
 use native.Mathlib.Omega.{arith}
-use lib.Dec.{eqb, leb}
+use lib.Dec.{eqb, leb, ltb}
 use lib.ListN.{length}
-use borrow.Author.Tests.{eqb-true}
-use Rattle.encoding.specs.Slices.{fits}
+use borrow.Author.Tests.{eqb-true, ne-eqb, ltb-false, le-leb, not-false}
+use Rattle.encoding.specs.Slices.{counted, fits}
 use Rattle.metadata.specs.Names.{Name}
 use Rattle.run.specs.declared.View.{View}
-use Rattle.run.specs.Record.{Storage, openIn, uniqueNow}
-use Rattle.run.specs.Damage.{misreadBy, damaged}
-use Rattle.run.specs.Table.{Row, row, first, appendRows, numberOf, liveUnder, badName, misnamed, namesFull, secondTop}
+use Rattle.run.specs.Record.{Storage, openIn, register, isOpen, uniqueNow}
+use Rattle.run.specs.Damage.{damaged, fallenEnds, misreadBy, overUsed}
+use Rattle.run.specs.Table.{Row, row, first, Clear, appendRows, numberOf, liveUnder, badName, live, misnamed, namesFull, secondTop, taken, tooLong}
+use Rattle.run.proofs.Demand1.{first-clear}
 use Rattle.table.specs.declared.Field.{Field}
 use Rattle.table.specs.declared.Decided.{Decided}
 use Rattle.table.specs.declared.lookup.Named.{Named}
-use Rattle.table.specs.Decide.{nameOf, noField, Decides, brokenOf, misnamedBy, decidedOf, Sees, frontBy, fullBy, roomBy, appendBy, openBy}
-use Rattle.table.proofs.ViewLaws.{past}
+use Rattle.table.specs.Decide.{nameOf, noField, Decides, brokenOf, misnamedBy, misreadInto, decidedOf, Sees, fullBy, rowsBy, enterBy, enterRows, lateRows}
+use Rattle.table.proofs.ViewLaws.{both, neither, past}
 pub use Rattle.table.proofs.ViewLaws.{broken-none, damaged-broken}
 
--- ---- the rows of an append and of an open
+-- ---- no test holds
+
+-- the tests, seen at once
+pub rows-none : (number own : ℕ) (finished inside wrong second taken deep full fit : Bool)
+    → ((eqb number 0 && eqb own 0) && not ((finished || (inside || (wrong || second))) || (taken || (deep || (full || not fit))))) ≡ true
+    → 0 ≡ rowsBy number own finished inside wrong second taken deep full fit
+rows-none number own finished inside wrong second taken deep full fit e =
+    let k = both (eqb number 0 && eqb own 0) _ e in
+    let z = both (eqb number 0) (eqb own 0) (k .0) in
+    go finished inside wrong second taken deep full fit (k .1) (eqb-true number 0 (z .0)) (eqb-true own 0 (z .1))
+  where
+    go : (a b c d t p u w : Bool) → not ((a || (b || (c || d))) || (t || (p || (u || not w)))) ≡ true → number ≡ 0 → own ≡ 0 → 0 ≡ rowsBy number own a b c d t p u w
+    go true b c d t p u w e n o = absurd (true≢false (sym e))
+    go false true c d t p u w e n o = absurd (true≢false (sym e))
+    go false false true d t p u w e n o = absurd (true≢false (sym e))
+    go false false false true t p u w e n o = absurd (true≢false (sym e))
+    go false false false false true p u w e n o = absurd (true≢false (sym e))
+    go false false false false false true u w e n o = absurd (true≢false (sym e))
+    go false false false false false false true w e n o = absurd (true≢false (sym e))
+    go false false false false false false false false e n o = absurd (true≢false (sym e))
+    go false false false false false false false true e n o = rw (n, o)
+
+-- ---- the rows, from what is known of the name
 
 -- what is known of a name, in cases
-known-front : (v : View) (l : Storage) (nm : Option Name) (f : Named) → Sees v l nm f → (P : ℕ → Bool → Type 0) → (misreadBy v l nm ≡ true → P 1 (f .field .live))
-    → (misreadBy v l nm ≡ false → badName nm ≡ true → P 9 (f .field .live))
-    → (misreadBy v l nm ≡ false → badName nm ≡ false → namesFull v l nm ≡ true → P 12 (liveUnder v l nm))
-    → (misreadBy v l nm ≡ false → badName nm ≡ false → namesFull v l nm ≡ false → P 0 (liveUnder v l nm)) → P (f .number) (f .field .live)
-known-front v l nm f s P a b c d = go (misreadBy v l nm) (badName nm) (namesFull v l nm) refl refl refl
+known-front : (into : Bool) (v : View) (l : Storage) (nm : Option Name) (f : Named) → Sees into v l nm f → (P : ℕ → Bool → Type 0) → (misreadInto into v l nm ≡ true → P 1 (f .field .live))
+    → (misreadInto into v l nm ≡ false → badName nm ≡ true → P 9 (f .field .live))
+    → (misreadInto into v l nm ≡ false → badName nm ≡ false → namesFull v l nm ≡ true → P 12 (liveUnder v l nm))
+    → (misreadInto into v l nm ≡ false → badName nm ≡ false → namesFull v l nm ≡ false → P 0 (liveUnder v l nm)) → P (f .number) (f .field .live)
+known-front into v l nm f s P a b c d = go (misreadInto into v l nm) (badName nm) (namesFull v l nm) refl refl refl
   where
-    go : (x y z : Bool) → misreadBy v l nm ≡ x → badName nm ≡ y → namesFull v l nm ≡ z → P (f .number) (f .field .live)
+    go : (x y z : Bool) → misreadInto into v l nm ≡ x → badName nm ≡ y → namesFull v l nm ≡ z → P (f .number) (f .field .live)
     go true y z p q r = rw (s .number, p) (a p)
     go false true z p q r = rw (s .number, p, q) (b p q)
     go false false true p q r = rw (s .number, p, q, r, s .live p q) (c p q r)
@@ -42,75 +65,58 @@ unfolding nameOf
 misnamed-by true name v = refl
 misnamed-by false name v = refl
 
--- the rows of an append, from what is known of its name
-pub append-rows : (v : View) (l : Storage) (named : Bool) (name : Name) (f : Named) (beyond bad : Bool) (size : ℕ) → brokenOf v l ≡ false → Sees v l (nameOf named name) f
-    → appendBy v f named beyond bad (fits (v .counts .value) size (length (l .value))) (length (l .entries)) ≡ first (appendRows v l (nameOf named name) beyond bad size)
+pub enter-rows : (v : View) (l : Storage) (named : Bool) (name : Name) (f : Named) (into opens : Bool) (own size : ℕ) → brokenOf v l ≡ false → Sees into v l (nameOf named name) f
+    → enterBy v f named into opens own (fits (v .counts .value) size (length (l .value))) (length (l .entries)) ≡ first (enterRows v l (nameOf named name) into opens own size)
 unfolding first
-append-rows v l named name f beyond bad size e s =
+enter-rows v l named name f into opens own size e s =
     let b = broken-none v l e in
     let nm = nameOf named name in
     let m = misnamed-by named name v in
-    known-front v l nm f s
-    (λ n live. appendBy v (record { field = record { id = 0; place = 0; new = false; live = live }; number = n }) named beyond bad (fits (v .counts .value) size (length (l .value))) (length (l .entries)) ≡ first (appendRows v l nm beyond bad size))
+    known-front into v l nm f s
+    (λ n live. enterBy v (record { field = record { id = 0; place = 0; new = false; live = live }; number = n }) named into opens own (fits (v .counts .value) size (length (l .value))) (length (l .entries)) ≡ first (enterRows v l nm into opens own size))
     (λ p. rw (b .0, b .1, p))
     (λ p q. rw (b .0, b .1, p, q, m))
     (λ p q r. rw (b .0, b .1, p, q, r, m))
     (λ p q r. rw (b .0, b .1, p, q, r, m))
 
--- the rows of an open
-open-rows : (v : View) (l : Storage) (named : Bool) (name : Name) (f : Named) (object : Bool) → brokenOf v l ≡ false → Sees v l (nameOf named name) f
-    → openBy v f named (length (l .entries)) ≡ numberOf v l (openIn (nameOf named name) object)
-unfolding first numberOf
-open-rows v l named name f object e s =
-    let b = broken-none v l e in
-    let nm = nameOf named name in
-    let m = misnamed-by named name v in
-    known-front v l nm f s
-    (λ n live. openBy v (record { field = record { id = 0; place = 0; new = false; live = live }; number = n }) named (length (l .entries)) ≡ numberOf v l (openIn nm object))
-    (λ p. rw (b .0, b .1, p))
-    (λ p q. rw (b .0, b .1, p, q, m))
-    (λ p q r. rw (b .0, b .1, p, q, r, m))
-    (λ p q r. rw (b .0, b .1, p, q, r, m))
+-- ---- a number 0: the name has none
 
--- ---- a number 0: no test holds
-
-name-zero : (v : View) (l : Storage) (nm : Option Name) (f : Named) → Sees v l nm f → eqb (f .number) 1 ≡ false → eqb (f .number) 9 ≡ false → eqb (f .number) 12 ≡ false → f .number ≡ 0
-name-zero v l nm f s =
-    known-front v l nm f s (λ n live. eqb n 1 ≡ false → eqb n 9 ≡ false → eqb n 12 ≡ false → n ≡ 0)
+name-zero : {into : Bool} (v : View) (l : Storage) (nm : Option Name) (f : Named) → Sees into v l nm f → eqb (f .number) 1 ≡ false → eqb (f .number) 9 ≡ false → eqb (f .number) 12 ≡ false → f .number ≡ 0
+name-zero {into} v l nm f s =
+    known-front into v l nm f s (λ n live. eqb n 1 ≡ false → eqb n 9 ≡ false → eqb n 12 ≡ false → n ≡ 0)
     (λ p a b c. absurd (true≢false a)) (λ p q a b c. absurd (true≢false b)) (λ p q r a b c. absurd (true≢false c)) (λ p q r a b c. refl)
 
-front-zero : (v : View) (number : ℕ) (named : Bool) (rest : ℕ) → frontBy v number named rest ≡ 0 → (eqb number 1 ≡ false) × (rest ≡ 0)
-front-zero v number named rest e =
-    let a = past (eqb number 1) 0 (cond (v .counts .finished) 2 (cond (misnamedBy named v) 5 (cond (secondTop v) 6 rest))) e in
-    let b = past (v .counts .finished) 1 (cond (misnamedBy named v) 5 (cond (secondTop v) 6 rest)) (a .1) in
-    let c = past (misnamedBy named v) 4 (cond (secondTop v) 6 rest) (b .1) in
-    (a .0, past (secondTop v) 5 rest (c .1) .1)
+-- no number of the scalar's own
+past-own : (own rest : ℕ) → cond (not (eqb own 0)) own rest ≡ 0 → rest ≡ 0
+past-own zero rest e = e
+past-own (suc n) rest e = let z : suc n ≡ 0 = rw (ne-eqb (suc n) 0 (λ p. omega arith)) at e in absurd (omega arith)
 
-append-zero : {v : View} {l : Storage} {nm : Option Name} {f : Named} (named beyond bad fit : Bool) (lent : ℕ) → Sees v l nm f → appendBy v f named beyond bad fit lent ≡ 0 → f .number ≡ 0
-append-zero {v} {l} {nm} {f} named beyond bad fit lent s e =
-    let room = roomBy (f .number) (fullBy v (f .field .live) lent) fit in
-    let late = cond (uniqueNow v && f .field .live) 10 room in
-    let a = front-zero v (f .number) named (cond beyond 7 (cond bad 8 (cond (eqb (f .number) 9) 9 late))) e in
-    let b = past beyond 6 (cond bad 8 (cond (eqb (f .number) 9) 9 late)) (a .1) in
-    let c = past bad 7 (cond (eqb (f .number) 9) 9 late) (b .1) in
-    let d = past (eqb (f .number) 9) 8 late (c .1) in
-    let g = past (uniqueNow v && f .field .live) 9 room (d .1) in
-    name-zero v l nm f s (a .0) (d .0) (past (eqb (f .number) 12) 11 (cond (fullBy v (f .field .live) lent) 13 (cond (not fit) 14 0)) (g .1) .0)
+rows-zero : (number own : ℕ) (finished inside wrong second taken deep full fit : Bool) → rowsBy number own finished inside wrong second taken deep full fit ≡ 0
+    → (eqb number 1 ≡ false) × ((eqb number 9 ≡ false) × (eqb number 12 ≡ false))
+rows-zero number own finished inside wrong second taken deep full fit e =
+    let a = past (eqb number 1) 0 _ e in
+    let b = past finished 1 _ (a .1) in
+    let c = past inside 3 _ (b .1) in
+    let d = past wrong 4 _ (c .1) in
+    let f = past second 5 _ (d .1) in
+    let i = past (eqb number 9) 8 _ (past-own own _ (f .1)) in
+    let j = past taken 9 _ (i .1) in
+    let k = past deep 10 _ (j .1) in
+    (a .0, (i .0, past (eqb number 12) 11 _ (k .1) .0))
 
-open-zero : {v : View} {l : Storage} {nm : Option Name} {f : Named} (named : Bool) (lent : ℕ) → Sees v l nm f → openBy v f named lent ≡ 0 → f .number ≡ 0
-open-zero {v} {l} {nm} {f} named lent s e =
-    let room = roomBy (f .number) (fullBy v (f .field .live) lent) true in
-    let deep = cond (leb 64 (v .counts .depth)) 11 room in
-    let late = cond (uniqueNow v && f .field .live) 10 deep in
-    let a = front-zero v (f .number) named (cond (eqb (f .number) 9) 9 late) e in
-    let d = past (eqb (f .number) 9) 8 late (a .1) in
-    let g = past (uniqueNow v && f .field .live) 9 deep (d .1) in
-    let h = past (leb 64 (v .counts .depth)) 10 room (g .1) in
-    name-zero v l nm f s (a .0) (d .0) (past (eqb (f .number) 12) 11 (cond (fullBy v (f .field .live) lent) 13 0) (h .1) .0)
+-- the rows of its name, its entry and its room are clear
+pub enter-late : (v : View) (l : Storage) (nm : Option Name) (into opens : Bool) (own size : ℕ) → first (enterRows v l nm into opens own size) ≡ 0 → Clear (lateRows v l nm opens size)
+unfolding first
+enter-late v l nm into opens own size e =
+    let a = past (damaged v l (misreadInto into v l nm)) 0 _ e in
+    let b = past (v .counts .finished) 1 _ (a .1) in
+    let c = past (not into && isOpen v) 3 _ (b .1) in
+    let d = past (into && misnamed nm v) 4 _ (c .1) in
+    first-clear 8 (lateRows v l nm opens size) refl (past-own own _ (past (into && secondTop v) 5 _ (d .1) .1))
 
 -- the answer: the field where the number is 0
-pub decides : {n m : ℕ} {v : View} {l : Storage} {nm : Option Name} {f : Named} {r : Decided} → Sees v l nm f → (n ≡ 0 → f .number ≡ 0) → m ≡ n → r ≡ decidedOf n (f .field) → Decides m v l nm r
-decides {n} {m} {v} {l} {nm} {f} {r} s z e d = go (eqb n 0) refl
+pub decides : {into : Bool} {n m : ℕ} {v : View} {l : Storage} {nm : Option Name} {f : Named} {r : Decided} → Sees into v l nm f → (n ≡ 0 → f .number ≡ 0) → m ≡ n → r ≡ decidedOf n (f .field) → Decides m v l nm r
+decides {into} {n} {m} {v} {l} {nm} {f} {r} s z e d = go (eqb n 0) refl
   where
     go : (t : Bool) → eqb n 0 ≡ t → Decides m v l nm r
     go true p = record { number = rw (d, p, e) (sym (eqb-true n 0 p)); field = rw (d, e, p) (s .field (z (eqb-true n 0 p))) }
@@ -124,19 +130,53 @@ decides-broken {v} {l} m rs e q d = let z = damaged-broken v l m e in record { n
 
 -- ---- as the code has it
 
-module _ (v : View) (l : Storage) (named : Bool) (name : Name) {f : Named} {r : Decided} {n : ℕ} (e : brokenOf v l ≡ false) (s : Sees v l (nameOf named name) f) where
-  -- an append's answer, from its name's field
-  pub append-decides : (beyond bad : Bool) (size : ℕ) {fit : Bool} → fit ≡ fits (v .counts .value) size (length (l .value)) → n ≡ appendBy v f named beyond bad fit (length (l .entries))
-      → r ≡ decidedOf n (f .field) → Decides (first (appendRows v l (nameOf named name) beyond bad size)) v l (nameOf named name) r
-  append-decides beyond bad size {fit} t p d =
-      decides s (λ z. append-zero named beyond bad fit (length (l .entries)) s (sym p ∙ z))
-      (sym (p ∙ (ap (λ b. appendBy v f named beyond bad b (length (l .entries))) t ∙ append-rows v l named name f beyond bad size e s))) d
+module _ (v : View) (l : Storage) (named : Bool) (name : Name) {f : Named} {r : Decided} {n : ℕ} {into : Bool} (e : brokenOf v l ≡ false) (s : Sees into v l (nameOf named name) f) where
+  pub enter-decides : (opens : Bool) (own size : ℕ) {fit : Bool} → fit ≡ fits (v .counts .value) size (length (l .value)) → n ≡ enterBy v f named into opens own fit (length (l .entries))
+      → r ≡ decidedOf n (f .field) → Decides (first (enterRows v l (nameOf named name) into opens own size)) v l (nameOf named name) r
+  enter-decides opens own size {fit} t p d =
+      decides s
+      (λ z. let q = rows-zero (f .number) own (v .counts .finished) (not into && isOpen v) (into && misnamedBy named v) (into && secondTop v) (uniqueNow v && f .field .live)
+      (opens && leb 64 (v .counts .depth)) (fullBy v (f .field .live) (length (l .entries))) fit (sym p ∙ z) in name-zero v l (nameOf named name) f s (q .0) (q .1 .0) (q .1 .1))
+      (sym (p ∙ (ap (λ b. enterBy v f named into opens own b (length (l .entries))) t ∙ enter-rows v l named name f into opens own size e s))) d
 
-  -- an open's
-  pub open-decides : n ≡ openBy v f named (length (l .entries)) → r ≡ decidedOf n (f .field) → (object : Bool) → Decides (numberOf v l (openIn (nameOf named name) object)) v l (nameOf named name) r
-  open-decides p d object = decides s (λ z. open-zero named (length (l .entries)) s (sym p ∙ z)) (sym (p ∙ open-rows v l named name f object e s)) d
+-- ---- each call's rows
 
--- an open's answer where number 1's part that every call asks holds
-pub open-broken : {v : View} {l : Storage} {nm : Option Name} {g : Field} {r : Decided} → brokenOf v l ≡ true → g ≡ noField → r ≡ decidedOf 1 g → (object : Bool) → Decides (numberOf v l (openIn nm object)) v l nm r
-unfolding numberOf
-open-broken e q d object = decides-broken _ _ e q d
+misread-into : (v : View) (l : Storage) (nm : Option Name) → misreadInto true v l nm ≡ misreadBy v l nm
+misread-into v l none = refl
+misread-into v l (some n) = refl
+
+-- nothing is too long where the used bytes fit
+none-long : (v : View) (l : Storage) → overUsed v l ≡ false → tooLong v l 0 ≡ false
+unfolding overUsed
+none-long v l e =
+    let u = ltb-false (counted (length (l .value))) (v .counts .value) (neither (ltb (counted (length (l .value))) (v .counts .value)) _ e .0) in
+    ap not (le-leb (v .counts .value + 0) (counted (length (l .value))) (omega arith))
+
+-- an append's: its own number is 7 or 8
+abbrev pub ownScalar : Bool → Bool → ℕ
+ownScalar beyond bad = cond beyond 7 (cond bad 8 0)
+
+pub append-number : (v : View) (l : Storage) (nm : Option Name) (beyond bad : Bool) (size : ℕ) → first (enterRows v l nm true false (ownScalar beyond bad) size) ≡ first (appendRows v l nm beyond bad size)
+unfolding first
+append-number v l nm true bad size = rw (misread-into v l nm)
+append-number v l nm false true size = rw (misread-into v l nm)
+append-number v l nm false false size = rw (misread-into v l nm)
+
+-- an open's
+pub open-number : (v : View) (l : Storage) (nm : Option Name) (object : Bool) → first (enterRows v l nm true true 0 0) ≡ numberOf v l (openIn nm object)
+unfolding first numberOf
+open-number v l nm object = go (overUsed v l) refl
+  where
+    go : (o : Bool) → overUsed v l ≡ o → first (enterRows v l nm true true 0 0) ≡ numberOf v l (openIn nm object)
+    go true p = rw p
+    go false p = rw (p, misread-into v l nm, none-long v l p)
+
+-- a register's: it enters nothing into a container
+pub register-number : (v : View) (l : Storage) (n : Name) → first (enterRows v l (some n) false false 0 0) ≡ numberOf v l (register n)
+unfolding first numberOf
+register-number v l n = go (overUsed v l) (isOpen v) refl refl
+  where
+    go : (o d : Bool) → overUsed v l ≡ o → isOpen v ≡ d → first (enterRows v l (some n) false false 0 0) ≡ numberOf v l (register n)
+    go true d p q = rw p
+    go false true p q = rw (p, q, or-false (fallenEnds v l))
+    go false false p q = rw (p, q, or-false (fallenEnds v l), and-false (v .counts .unique), none-long v l p)

@@ -1,7 +1,7 @@
 -- What each number function answers: a call's number by the rows of `run`, and then what its name means.
 use mathlib.Core.Path.{_≡_}
 use mathlib.Core.Bool.{Bool, true, false, cond, not, _&&_, _||_}
-use mathlib.Core.List.{List}
+use mathlib.Core.List.{List, [], _∷_}
 use mathlib.Core.Option.{Option, none, some}
 use Prim.Native.Nat.{ℕ, _+_}
 use lib.Dec.{eqb, leb, ltb}
@@ -14,12 +14,11 @@ use Rattle.run.specs.declared.ParentEntry.{ParentEntry}
 use Rattle.run.specs.declared.ParentEntry.the-variants.{New, Replaced}
 use Rattle.run.specs.declared.View.{View}
 use Rattle.run.specs.Record.{Storage, close, finish, isOpen, inObject, innerEntries, parentSize, parentEntries, uniqueNow}
-use Rattle.run.specs.Damage.{misreadBy, overUsed, unchained, misplacedParent, orphaned}
-use Rattle.run.specs.Table.{first, rows, held, liveUnder, badName, namesFull, secondTop}
+use Rattle.run.specs.Damage.{damaged, fallenEnds, misplacedInner, overUsed, unchained, misplacedParent, orphaned}
+use Rattle.run.specs.Table.{Row, row, first, rows, held, liveUnder, badName, entriesFull, misnamed, namesFull, secondTop, taken, tooLong}
 use Rattle.run.specs.Step.{idFor, placeFor}
 use Rattle.table.specs.declared.Field.{Field}
 use Rattle.table.specs.declared.Decided.{Decided}
-use Rattle.table.specs.declared.Registers.{Registers}
 use Rattle.table.specs.declared.Closing.{Closing}
 use Rattle.table.specs.declared.Undone.{Undone}
 use Rattle.table.specs.declared.numbers.Parent.{Parent}
@@ -51,10 +50,6 @@ noField = record { id = 0; place = 0; new = false; live = false }
 pub record Decides (n : ℕ) (v : View) (l : Storage) (nm : Option Name) (r : Decided) : Type 0 where
   pub number : r .number ≡ n
   pub field : r .field ≡ cond (eqb n 0) (fieldOf v l nm) noField
-
-pub record RegistersBy (n : ℕ) (v : View) (l : Storage) (name : Name) (r : Registers) : Type 0 where
-  pub number : r .number ≡ n
-  pub new : r .new ≡ cond (eqb n 0) (isNew v l (some name)) false
 
 -- the place of the parent's entry that gets its former offset again; 0 where there is none
 abbrev pub placeBack : View → Storage → ParentEntry → ℕ
@@ -89,10 +84,30 @@ misnamedBy named v = cond named (not (inObject v)) (inObject v)
 abbrev pub toldBy : Known → Told
 toldBy k = record { number = k .number; id = k .id; new = k .new }
 
+-- the rows of a name, an entry and room, from 9 on
+abbrev pub lateRows : View → Storage → Option Name → Bool → ℕ → List Row
+lateRows v l nm opens size =
+    row 9 (badName nm)
+    ∷ (row 10 (taken v l nm)
+    ∷ (row 11 (opens && leb 64 (v .counts .depth)) ∷ (row 12 (namesFull v l nm) ∷ (row 13 (entriesFull v l nm) ∷ (row 14 (tooLong v l size) ∷ [])))))
+
+-- number 1's own part of a call that gives a name; `into` is false of a register, which enters nothing into a container
+abbrev pub misreadInto : Bool → View → Storage → Option Name → Bool
+misreadInto into v l none = false
+misreadInto into v l (some n) = fallenEnds v l || (into && misplacedInner v l)
+
+-- the rows of a register, an append and an open: `own` is the scalar's own number, 0 where it has none; `opens` is true of an open
+abbrev pub enterRows : View → Storage → Option Name → Bool → Bool → ℕ → ℕ → List Row
+enterRows v l nm into opens own size =
+    row 1 (damaged v l (misreadInto into v l nm))
+    ∷ (row 2 (v .counts .finished)
+    ∷ (row 4 (not into && isOpen v)
+    ∷ (row 5 (into && misnamed nm v) ∷ (row 6 (into && secondTop v) ∷ (row own (not (eqb own 0)) ∷ lateRows v l nm opens size)))))
+
 -- what is known of a name: the first of rows 1 (the call's own part), 9 and 12 that holds, and its field
-pub record Sees (v : View) (l : Storage) (nm : Option Name) (r : Named) : Type 0 where
-  pub number : r .number ≡ cond (misreadBy v l nm) 1 (cond (badName nm) 9 (cond (namesFull v l nm) 12 0))
-  pub live : misreadBy v l nm ≡ false → badName nm ≡ false → r .field .live ≡ liveUnder v l nm
+pub record Sees (into : Bool) (v : View) (l : Storage) (nm : Option Name) (r : Named) : Type 0 where
+  pub number : r .number ≡ cond (misreadInto into v l nm) 1 (cond (badName nm) 9 (cond (namesFull v l nm) 12 0))
+  pub live : misreadInto into v l nm ≡ false → badName nm ≡ false → r .field .live ≡ liveUnder v l nm
   pub field : r .number ≡ 0 → r .field ≡ fieldOf v l nm
 
 abbrev pub decidedOf : ℕ → Field → Decided
@@ -102,22 +117,21 @@ pub record ParentOf (v : View) (l : Storage) (r : Parent) : Type 0 where
   pub damaged : r .damaged ≡ (misplacedParent v l || orphaned (v .inner .parent) (v .parent .object) (parentSize v) (parentEntries v l))
   pub place : r .place ≡ placeBack v l (v .inner .parent)
 
--- the rows of an append and of an open, from what is known of the name
-abbrev pub frontBy : View → ℕ → Bool → ℕ → ℕ
-frontBy v number named rest = cond (eqb number 1) 1 (cond (v .counts .finished) 2 (cond (misnamedBy named v) 5 (cond (secondTop v) 6 rest)))
-
+-- those rows, from what is known of the name
 abbrev pub fullBy : View → Bool → ℕ → Bool
 fullBy v live lent = (isOpen v && not live) && leb (roomFor lent) (v .counts .entries)
 
-abbrev pub roomBy : ℕ → Bool → Bool → ℕ
-roomBy number full fit = cond (eqb number 12) 12 (cond full 13 (cond (not fit) 14 0))
+abbrev pub rowsBy : ℕ → ℕ → Bool → Bool → Bool → Bool → Bool → Bool → Bool → Bool → ℕ
+rowsBy number own finished inside wrong second taken deep full fit =
+    cond (eqb number 1) 1
+    (cond finished 2
+    (cond inside 4
+    (cond wrong 5
+    (cond second 6
+    (cond (not (eqb own 0)) own
+    (cond (eqb number 9) 9 (cond taken 10 (cond deep 11 (cond (eqb number 12) 12 (cond full 13 (cond (not fit) 14 0)))))))))))
 
-abbrev pub appendBy : View → Named → Bool → Bool → Bool → Bool → ℕ → ℕ
-appendBy v f named beyond bad fit lent =
-    frontBy v (f .number) named
-    (cond beyond 7 (cond bad 8 (cond (eqb (f .number) 9) 9 (cond (uniqueNow v && f .field .live) 10 (roomBy (f .number) (fullBy v (f .field .live) lent) fit)))))
-
-abbrev pub openBy : View → Named → Bool → ℕ → ℕ
-openBy v f named lent =
-    frontBy v (f .number) named
-    (cond (eqb (f .number) 9) 9 (cond (uniqueNow v && f .field .live) 10 (cond (leb 64 (v .counts .depth)) 11 (roomBy (f .number) (fullBy v (f .field .live) lent) true))))
+abbrev pub enterBy : View → Named → Bool → Bool → Bool → ℕ → Bool → ℕ → ℕ
+enterBy v f named into opens own fit lent =
+    rowsBy (f .number) own (v .counts .finished) (not into && isOpen v) (into && misnamedBy named v) (into && secondTop v) (uniqueNow v && f .field .live)
+    (opens && leb 64 (v .counts .depth)) (fullBy v (f .field .live) lent) fit

@@ -4,14 +4,13 @@ mod lookup;
 mod numbers;
 mod view;
 
-pub use numbers::append_number;
 pub use numbers::close_number;
+pub use numbers::enter_number;
 pub use numbers::finish_number;
-pub use numbers::open_number;
-pub use numbers::register_number;
 pub use numbers::rollback_number;
 pub use numbers::unique_number;
 pub use view::less;
+pub use view::row;
 pub use view::unique_now;
 
 // What a field name means to a call: its id, the place of its entry in the innermost container where it is live there, whether
@@ -27,12 +26,6 @@ pub struct Field {
 pub struct Decided {
     pub field: Field,
     pub number: u8,
-}
-
-// A registered name's number, and then whether it is new.
-pub struct Registers {
-    pub number: u8,
-    pub new: bool,
 }
 
 // A close's number by its first three rows, and the largest id of the innermost's entries, which its header's size comes from.

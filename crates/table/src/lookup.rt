@@ -75,9 +75,10 @@ pub(crate) fn field_of(
     entries: &[usize],
     named: bool,
     name: &[u8],
+    into: bool,
 ) -> Named
     requires { ⌜ brokenOf v (stored (now value) (now text) (now ends) (now entries)) ≡ false ⌝ }
-    ensures { λ r. ⌜ Sees v (stored (now (value .entry)) (now (text .entry)) (now (ends .entry)) (now (entries .entry))) (nameOf named (now (name .entry))) r ⌝ }
+    ensures { λ r. ⌜ Sees into v (stored (now (value .entry)) (now (text .entry)) (now (ends .entry)) (now (entries .entry))) (nameOf named (now (name .entry))) r ⌝ }
 {
     if !named {
         return Named {
@@ -100,7 +101,7 @@ pub(crate) fn field_of(
             new: n.new,
             live: live,
         },
-        number: one_if((n.number == 1) | (open & s.misplaced), n.number),
+        number: one_if((n.number == 1) | ((into & open) & s.misplaced), n.number),
     }
 }
 

@@ -2,11 +2,9 @@
 use crate::Closing;
 use crate::Decided;
 use crate::Field;
-use crate::Registers;
 use crate::Undone;
 use crate::lookup::Named;
 use crate::lookup::field_of;
-use crate::lookup::look_up;
 use crate::lookup::no_field;
 use crate::view::broken;
 use crate::view::in_object;
@@ -27,41 +25,13 @@ ghost use mathlib.Core.List.{List};
 ghost use Prim.Native.Nat.{ℕ, _≤_};
 ghost use lib.ListN.{length};
 ghost use Rattle.container.specs.Entries.{roomFor};
-ghost use Rattle.run.specs.Record.{openIn, register, rollBack, uniqueness};
-ghost use Rattle.run.specs.Table.{appendRows, first, numberOf};
-ghost use Rattle.table.specs.Decide.{ClosesBy, Decides, ParentOf, appendBy, finishBy, frontBy, fullBy, openBy, roomBy, RegistersBy, Undoes, decidedOf, nameOf, stored};
+ghost use Rattle.run.specs.Record.{rollBack, uniqueness};
+ghost use Rattle.run.specs.Table.{first, numberOf};
+ghost use Rattle.table.specs.Decide.{ClosesBy, Decides, ParentOf, enterBy, enterRows, finishBy, fullBy, rowsBy, Undoes, decidedOf, nameOf, stored};
 
-pub fn register_number(
-    v: View,
-    value: &[u8],
-    text: &[u8],
-    ends: &[usize],
-    entries: &[usize],
-    name: &[u8],
-) -> Registers
-    ensures { λ r. ⌜ RegistersBy (numberOf v (stored (now (value .entry)) (now (text .entry)) (now (ends .entry)) (now (entries .entry))) (register (now (name .entry)))) v (stored (now (value .entry)) (now (text .entry)) (now (ends .entry)) (now (entries .entry))) (now (name .entry)) r ⌝ }
-{
-    if broken(v, value, text, ends, entries) {
-        return Registers {
-            number: 1,
-            new: false,
-        };
-    }
-    let m = v.counts.dictionary;
-    let k = look_up(m, text, ends, name);
-    let n = row(
-        k.number == 1,
-        1,
-        row(v.counts.finished, 2, row(is_open(v), 4, k.number)),
-    );
-    Registers {
-        number: n,
-        new: (n == 0) & k.new,
-    }
-}
-
-// `beyond` and `bad` are rows 7 and 8 of the scalar, `size` its bytes.
-pub fn append_number(
+// A register's, an append's and an open's. `into` is false of a register, which enters nothing into a container; `opens` is true of an
+// open; `own` is the scalar's own number, 0 where it has none; `size` is the scalar's bytes.
+pub fn enter_number(
     v: View,
     value: &[u8],
     text: &[u8],
@@ -69,102 +39,94 @@ pub fn append_number(
     entries: &[usize],
     named: bool,
     name: &[u8],
-    beyond: bool,
-    bad: bool,
+    into: bool,
+    opens: bool,
+    own: u8,
     size: usize,
 ) -> Decided
-    ensures { λ r. ⌜ Decides (first (appendRows v (stored (now (value .entry)) (now (text .entry)) (now (ends .entry)) (now (entries .entry))) (nameOf named (now (name .entry))) beyond bad size)) v (stored (now (value .entry)) (now (text .entry)) (now (ends .entry)) (now (entries .entry))) (nameOf named (now (name .entry))) r ⌝ }
+    ensures { λ r. ⌜ Decides (first (enterRows v (stored (now (value .entry)) (now (text .entry)) (now (ends .entry)) (now (entries .entry))) (nameOf named (now (name .entry))) into opens own size)) v (stored (now (value .entry)) (now (text .entry)) (now (ends .entry)) (now (entries .entry))) (nameOf named (now (name .entry))) r ⌝ }
 {
     if broken(v, value, text, ends, entries) {
         return decided(1, no_field());
     }
-    let f = field_of(v, value, text, ends, entries, named, name);
+    let f = field_of(v, value, text, ends, entries, named, name, into);
     let g = f.field;
-    let n = append_rows(
+    let n = enter_rows(
         v,
         f,
         named,
-        beyond,
-        bad,
+        into,
+        opens,
+        own,
         fits(v.counts.value, size, value.len()),
         entries,
     );
     decided(n, g)
 }
 
-pub fn open_number(
-    v: View,
-    value: &[u8],
-    text: &[u8],
-    ends: &[usize],
-    entries: &[usize],
-    named: bool,
-    name: &[u8],
-) -> Decided
-    ensures { λ r. ⌜ ((object : Bool) → Decides (numberOf v (stored (now (value .entry)) (now (text .entry)) (now (ends .entry)) (now (entries .entry))) (openIn (nameOf named (now (name .entry))) object)) v (stored (now (value .entry)) (now (text .entry)) (now (ends .entry)) (now (entries .entry))) (nameOf named (now (name .entry))) r) ⌝ }
-{
-    if broken(v, value, text, ends, entries) {
-        return decided(1, no_field());
-    }
-    let f = field_of(v, value, text, ends, entries, named, name);
-    let g = f.field;
-    let n = open_rows(v, f, named, entries);
-    decided(n, g)
-}
-
-fn append_rows(
+fn enter_rows(
     v: View,
     f: Named,
     named: bool,
-    beyond: bool,
-    bad: bool,
+    into: bool,
+    opens: bool,
+    own: u8,
     fit: bool,
     entries: &[usize],
 ) -> u8
-    ensures { λ r. ⌜ r ≡ appendBy v f named beyond bad fit (length (now (entries .entry))) ⌝ }
+    ensures { λ r. ⌜ r ≡ enterBy v f named into opens own fit (length (now (entries .entry))) ⌝ }
 {
     let g = f.field;
-    let rest = room_rows(f.number, entries_full(v, g.live, entries), fit);
-    let name = row(f.number == 9, 9, row(unique_now(v) & g.live, 10, rest));
-    front_rows(v, f.number, named, row(beyond, 7, row(bad, 8, name)))
-}
-
-// Rows 12 to 14, `number` being that of the name.
-fn room_rows(number: u8, full: bool, fit: bool) -> u8
-    ensures { λ r. ⌜ r ≡ roomBy number full fit ⌝ }
-{
-    row(number == 12, 12, row(full, 13, row(!fit, 14, 0)))
-}
-
-fn open_rows(v: View, f: Named, named: bool, entries: &[usize]) -> u8
-    ensures { λ r. ⌜ r ≡ openBy v f named (length (now (entries .entry))) ⌝ }
-{
-    let g = f.field;
+    let inside = !into & is_open(v);
+    let wrong = into & misnamed(v, named);
+    let second = into & second_top(v);
+    let taken = unique_now(v) & g.live;
+    let deep = opens & (64 <= v.counts.depth);
     let full = entries_full(v, g.live, entries);
-    let late = row(
-        64 <= v.counts.depth,
-        11,
-        row(f.number == 12, 12, row(full, 13, 0)),
-    );
-    front_rows(
-        v,
+    rows(
         f.number,
-        named,
-        row(f.number == 9, 9, row(unique_now(v) & g.live, 10, late)),
+        own,
+        v.counts.finished,
+        inside,
+        wrong,
+        second,
+        taken,
+        deep,
+        full,
+        fit,
     )
 }
 
-// Rows 1 to 6 of an append and an open, `number` being that of the name.
-fn front_rows(v: View, number: u8, named: bool, rest: u8) -> u8
-    ensures { λ r. ⌜ r ≡ frontBy v number named rest ⌝ }
+// The first row that holds. Mostly none does, which is seen at once.
+fn rows(
+    number: u8,
+    own: u8,
+    finished: bool,
+    inside: bool,
+    wrong: bool,
+    second: bool,
+    taken: bool,
+    deep: bool,
+    full: bool,
+    fit: bool,
+) -> u8
+    ensures { λ r. ⌜ r ≡ rowsBy number own finished inside wrong second taken deep full fit ⌝ }
 {
+    let known = (number == 0) & (own == 0);
+    let one = (finished | (inside | (wrong | second))) | (taken | (deep | (full | !fit)));
+    if known & !one {
+        return 0;
+    }
+    let room = row(number == 12, 12, row(full, 13, row(!fit, 14, 0)));
+    let late = row(number == 9, 9, row(taken, 10, row(deep, 11, room)));
+    let rest = row(own != 0, own, late);
     row(
         number == 1,
         1,
         row(
-            v.counts.finished,
+            finished,
             2,
-            row(misnamed(v, named), 5, row(second_top(v), 6, rest)),
+            row(inside, 4, row(wrong, 5, row(second, 6, rest))),
         ),
     )
 }

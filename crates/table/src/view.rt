@@ -21,7 +21,7 @@ pub fn less(a: usize, b: usize) -> usize
 }
 
 // A row of the table: its number where its test holds, else that of the rows after it.
-pub(crate) fn row(test: bool, number: u8, rest: u8) -> u8
+pub fn row(test: bool, number: u8, rest: u8) -> u8
     ensures { λ r. ⌜ r ≡ cond test number rest ⌝ }
 {
     if test {

@@ -1,32 +1,33 @@
-use mathlib.Core.Path.{ap}
-use Rattle.run.specs.declared.Builder.{Builder}
-use Rattle.table.specs.Decide.{nameOf, stored}
-use Rattle.ffi.proofs.CallLaws.{open-refused, open-deep, open-done}
 use borrow.Author.Needs.{needs}
+use Rattle.table.specs.Decide.{nameOf, stored}
+use Rattle.ffi.proofs.CallLaws.{opens-deep, opens-done, opens-stays}
 use Rattle.ffi.proofs.calls.new_container.Statement.{statement}
 use Rattle.ffi.proofs.calls.new_container.Tie as tie
 
 returns : tie.Need-returns
 returns c =
-    let r = c .before .before .before .before .before .before .before in
-    let v = r .before .before .before .before in
-    let a = v .before .before .before .before .before .before .before .args in
-    open-refused (a .words .now) (stored (a .value .now) (a .text .now) (a .ends .now) (a .entries .now)) (nameOf (a .named) (a .name .now)) (a .object) (v .view-of .ensures) (r .open-over .ensures) (c .if1 .taken)
+    let e = c .before .before .before .before .before .before in
+    let k = e .before .before .before .before .before in
+    let a = k .before .before .before .before .before .before .before .args in
+    opens-stays (a .words .now) (stored (a .value .now) (a .text .now) (a .ends .now) (a .entries .now)) (nameOf (a .named) (a .name .now)) (a .object) (e .enter .ensures) (c .if1 .taken)
 
 put-container-requires : tie.Need-put-container-requires
 put-container-requires c κs =
-    let r = c .before .before .before .before .before .before .before .before .before .before in
-    let v = r .before .before .before .before in
-    let a = v .before .before .before .before .before .before .before .args in
-    open-deep (a .words .now) (stored (a .value .now) (a .text .now) (a .ends .now) (a .entries .now)) (nameOf (a .named) (a .name .now)) (a .object) (v .view-of .ensures) (r .open-over .ensures) (c .before .before .before .if1 .left)
+    let i = c .before .before .before .before .before .before in
+    let e = i .before .before .before .before .before .before in
+    let k = e .before .before .before .before .before in
+    let a = k .before .before .before .before .before .before .before .args in
+    rw (k .counts-of .ensures) (opens-deep (a .words .now) (stored (a .value .now) (a .text .now) (a .ends .now) (a .entries .now)) (nameOf (a .named) (a .name .now)) (a .object) (e .enter .ensures) (i .if1 .left))
 
 returns-2 : tie.Need-returns-2
 returns-2 c =
-    let r = c .before .before .before .before .before .before .before .before .before .before .before .before .before in
-    let v = r .before .before .before .before in
-    let a = v .before .before .before .before .before .before .before .args in
-    open-done (a .words .now) (stored (a .value .now) (a .text .now) (a .ends .now) (a .entries .now)) (nameOf (a .named) (a .name .now)) (a .object) (v .view-of .ensures) (r .open-over .ensures) (c .before .before .before .before .before .before .if1 .left)
-    (ap (λ (y : Builder). y .containers) (c .before .before .put-container .ensures)) (c .put-counts .ensures)
+    let n = c .before .before .before .before .before in
+    let i = n .before .before in
+    let e = i .before .before .before .before .before .before in
+    let k = e .before .before .before .before .before in
+    let a = k .before .before .before .before .before .before .before .args in
+    opens-done (a .words .now) (stored (a .value .now) (a .text .now) (a .ends .now) (a .entries .now)) (nameOf (a .named) (a .name .now)) (a .object) (e .enter .ensures) (i .if1 .left)
+    (n .note .ensures) (rw (k .counts-of .ensures) at (c .before .before .child .ensures)) (rw (k .counts-of .ensures) at (c .put-container .ensures))
 
 pub new-container-spec : {M : Type 1} → statement M
 new-container-spec =
@@ -38,8 +39,9 @@ new-container-spec =
     (λ c. search needs)
     (λ c. search needs)
     returns
-    put-container-requires
     (λ c κs. search needs)
+    (λ c κs. search needs)
+    put-container-requires
     (λ c. search needs)
     (λ c. search needs)
     (λ c. search needs)

@@ -1,19 +1,37 @@
-use mathlib.Core.Path.{refl}
-use Rattle.run.specs.Record.{append, bytes}
+use borrow.Author.Needs.{needs}
+use mathlib.Core.Path.{_∙_, ap}
+use mathlib.Core.Bool.{cond}
+use Rattle.run.specs.Record.{bytes}
 use Rattle.table.specs.Decide.{nameOf, stored}
 use Rattle.ffi.specs.Scalars.{kindOf}
-use Rattle.ffi.proofs.CallLaws.{does-moved}
-use borrow.Author.Needs.{needs}
+use Rattle.ffi.proofs.CallLaws.{does-appended, does-refused}
 use Rattle.ffi.proofs.calls.variant_append_bytes.Statement.{statement}
 use Rattle.ffi.proofs.calls.variant_append_bytes.Tie as tie
 
 returns : tie.Need-returns
 returns c =
-    let r = c .before .before .before .before .before .before .before .before .before .before in
-    let v = r .before .before .before .before .before .before in
-    let a = v .before .before .before .before .before .before .before .before .args in
-    does-moved (a .words .now) (stored (a .value .now) (a .text .now) (a .ends .now) (a .entries .now)) (append (nameOf (a .named) (a .name .now)) (bytes (kindOf (a .kind)) (a .bytes .now))) refl (v .view-of .ensures)
-    (rw (c .before .before .before .before .before .before .before .before .before .before .before .before .before .before .before .kind-of .ensures) at (r .append-bytes-over .ensures)) (c .moved .ensures)
+    let e = c .before .before .before .before .before .before in
+    let o = e .before .before .before .before .before .before in
+    let u = o .before .before .before .before in
+    let s = u .before .before .before .before .before .before .before .before in
+    let a = s .args in
+    let k = o .before .before .before .kind-of .ensures in
+    does-refused (a .words .now) (stored (a .value .now) (a .text .now) (a .ends .now) (a .entries .now)) (nameOf (a .named) (a .name .now)) (bytes (kindOf (a .kind)) (a .bytes .now))
+    (o .row .ensures ∙ ap (λ t. cond t 8 0) (rw k at (o .before .ill-formed .ensures))) (rw k at (o .before .before .bytes-size .ensures)) (e .enter .ensures) (c .if1 .taken)
+
+returns-2 : tie.Need-returns-2
+returns-2 c =
+    let n = c .before .before .before .before .before .before in
+    let i = n .before .before in
+    let e = i .before .before .before .before .before .before in
+    let o = e .before .before .before .before .before .before in
+    let u = o .before .before .before .before in
+    let s = u .before .before .before .before .before .before .before .before in
+    let a = s .args in
+    let k = o .before .before .before .kind-of .ensures in
+    does-appended (a .words .now) (stored (a .value .now) (a .text .now) (a .ends .now) (a .entries .now)) (nameOf (a .named) (a .name .now)) (bytes (kindOf (a .kind)) (a .bytes .now))
+    (o .row .ensures ∙ ap (λ t. cond t 8 0) (rw k at (o .before .ill-formed .ensures))) (rw k at (o .before .before .bytes-size .ensures)) (e .enter .ensures)
+    (i .if1 .left) (n .note .ensures .1) (rw (k, u .counts-of .ensures) at (c .before .before .write-bytes .ensures))
 
 pub variant-append-bytes-spec : {M : Type 1} → statement M
 variant-append-bytes-spec =
@@ -23,8 +41,17 @@ variant-append-bytes-spec =
     (λ c κs. search needs)
     (λ c κs. search needs)
     (λ c κs. search needs)
+    (λ c κs. search needs)
+    (λ c κs. search needs)
     (λ c. search needs)
     (λ c. search needs)
     (λ c. search needs)
     (λ c. search needs)
-    returns)
+    returns
+    (λ c κs. search needs)
+    (λ c κs. search needs)
+    (λ c. search needs)
+    (λ c. search needs)
+    (λ c. search needs)
+    (λ c. search needs)
+    returns-2)

@@ -1,17 +1,32 @@
-use mathlib.Core.Path.{refl}
-use Rattle.run.specs.Record.{append, uuid}
-use Rattle.table.specs.Decide.{nameOf, stored}
-use Rattle.ffi.proofs.CallLaws.{does-moved}
 use borrow.Author.Needs.{needs}
+use mathlib.Core.Path.{refl}
+use Rattle.run.specs.Record.{uuid}
+use Rattle.table.specs.Decide.{nameOf, stored}
+use Rattle.pieces.proofs.AppendLaws.{uuid-size, writes-uuid}
+use Rattle.ffi.proofs.CallLaws.{does-appended, does-refused}
 use Rattle.ffi.proofs.calls.variant_append_uuid.Statement.{statement}
 use Rattle.ffi.proofs.calls.variant_append_uuid.Tie as tie
 
 returns : tie.Need-returns
 returns c =
-    let r = c .before .before .before .before .before .before .before .before .before .before in
-    let v = r .before .before .before .before .before .before in
-    let a = v .before .before .before .before .before .before .before .args in
-    does-moved (a .words .now) (stored (a .value .now) (a .text .now) (a .ends .now) (a .entries .now)) (append (nameOf (a .named) (a .name .now)) (uuid (a .uuid .now))) refl (v .view-of .ensures) (r .append-uuid-over .ensures) (c .moved .ensures)
+    let e = c .before .before .before .before .before .before in
+    let u = e .before .before .before .before .before .before .before in
+    let t = u .before .before in
+    let a = t .before .before .before .before .before .before .args in
+    does-refused (a .words .now) (stored (a .value .now) (a .text .now) (a .ends .now) (a .entries .now)) (nameOf (a .named) (a .name .now)) (uuid (a .uuid .now)) {own = 0} {size = 17} refl
+    (uuid-size (a .uuid .now) (t .sixteen .ensures)) (e .enter .ensures) (c .if1 .taken)
+
+returns-2 : tie.Need-returns-2
+returns-2 c =
+    let n = c .before .before .before .before .before .before in
+    let i = n .before .before in
+    let e = i .before .before .before .before .before .before in
+    let u = e .before .before .before .before .before .before .before in
+    let t = u .before .before in
+    let a = t .before .before .before .before .before .before .args in
+    does-appended (a .words .now) (stored (a .value .now) (a .text .now) (a .ends .now) (a .entries .now)) (nameOf (a .named) (a .name .now)) (uuid (a .uuid .now)) {own = 0} {size = 17} refl
+    (uuid-size (a .uuid .now) (t .sixteen .ensures)) (e .enter .ensures) (i .if1 .left) (n .note .ensures .1)
+    (writes-uuid _ (a .uuid .now) (a .value .now) (t .sixteen .ensures) (rw (u .counts-of .ensures) at (c .before .before .write-uuid .ensures)))
 
 pub variant-append-uuid-spec : {M : Type 1} → statement M
 variant-append-uuid-spec =
@@ -24,4 +39,11 @@ variant-append-uuid-spec =
     (λ c. search needs)
     (λ c. search needs)
     (λ c. search needs)
-    returns)
+    returns
+    (λ c κs. search needs)
+    (λ c κs. search needs)
+    (λ c. search needs)
+    (λ c. search needs)
+    (λ c. search needs)
+    (λ c. search needs)
+    returns-2)

@@ -1,24 +1,39 @@
-use mathlib.Core.Path.{refl}
+use borrow.Author.Needs.{needs}
+use mathlib.Core.Path.{_∙_, ap}
+use mathlib.Core.Bool.{cond}
 use mir.Syntax.{w64}
 use mir.ValLaws.{toZ-ofZ}
-use Rattle.run.specs.Record.{append, fixed}
+use Rattle.run.specs.Record.{fixed}
 use Rattle.table.specs.Decide.{nameOf, stored}
 use Rattle.ffi.specs.Scalars.{variantOf}
-use Rattle.ffi.proofs.CallLaws.{does-moved}
-use borrow.Author.Needs.{needs}
+use Rattle.ffi.proofs.CallLaws.{does-appended, does-refused}
 use Rattle.ffi.proofs.calls.variant_append_value.Statement.{statement}
 use Rattle.ffi.proofs.calls.variant_append_value.Tie as tie
 
 returns : tie.Need-returns
 returns c =
-    let r = c .before .before .before .before .before .before .before .before .before .before in
-    let x = c .before .before .before .before .before .before .before .before .before .before .before .before .before .before .before in
-    let v = x .before in
-    let s = v .before .before .before .before .before .before .before in
+    let e = c .before .before .before .before .before .before in
+    let o = e .before .before .before .before .before .before in
+    let u = o .before .before .before .before in
+    let s = u .before .before .before .before .before .before .before in
     let a = s .args in
-    let e = rw (toZ-ofZ w64 (a .z) (s .fits .z)) at (x .variant-of .ensures) in
-    does-moved (a .words .now) (stored (a .value .now) (a .text .now) (a .ends .now) (a .entries .now))
-    (append (nameOf (a .named) (a .name .now)) (fixed (variantOf (a .code) (a .z) (a .low) (a .scale)))) refl (v .view-of .ensures) (rw e at (r .append-value-over .ensures)) (c .moved .ensures)
+    let k = rw (toZ-ofZ w64 (a .z) (s .fits .z)) at (o .before .before .before .variant-of .ensures) in
+    does-refused (a .words .now) (stored (a .value .now) (a .text .now) (a .ends .now) (a .entries .now)) (nameOf (a .named) (a .name .now)) (fixed (variantOf (a .code) (a .z) (a .low) (a .scale)))
+    (o .row .ensures ∙ ap (λ t. cond t 7 0) (rw k at (o .before .out-of-range .ensures))) (rw k at (o .before .before .variant-size .ensures)) (e .enter .ensures) (c .if1 .taken)
+
+returns-2 : tie.Need-returns-2
+returns-2 c =
+    let n = c .before .before .before .before .before .before in
+    let i = n .before .before in
+    let e = i .before .before .before .before .before .before in
+    let o = e .before .before .before .before .before .before in
+    let u = o .before .before .before .before in
+    let s = u .before .before .before .before .before .before .before in
+    let a = s .args in
+    let k = rw (toZ-ofZ w64 (a .z) (s .fits .z)) at (o .before .before .before .variant-of .ensures) in
+    does-appended (a .words .now) (stored (a .value .now) (a .text .now) (a .ends .now) (a .entries .now)) (nameOf (a .named) (a .name .now)) (fixed (variantOf (a .code) (a .z) (a .low) (a .scale)))
+    (o .row .ensures ∙ ap (λ t. cond t 7 0) (rw k at (o .before .out-of-range .ensures))) (rw k at (o .before .before .variant-size .ensures)) (e .enter .ensures)
+    (i .if1 .left) (n .note .ensures .1) (rw (k, u .counts-of .ensures) at (c .before .before .write-variant .ensures))
 
 pub variant-append-value-spec : {M : Type 1} → statement M
 variant-append-value-spec =
@@ -28,8 +43,17 @@ variant-append-value-spec =
     (λ c κs. search needs)
     (λ c κs. search needs)
     (λ c κs. search needs)
+    (λ c κs. search needs)
+    (λ c κs. search needs)
     (λ c. search needs)
     (λ c. search needs)
     (λ c. search needs)
     (λ c. search needs)
-    returns)
+    returns
+    (λ c κs. search needs)
+    (λ c κs. search needs)
+    (λ c. search needs)
+    (λ c. search needs)
+    (λ c. search needs)
+    (λ c. search needs)
+    returns-2)

@@ -1,5 +1,6 @@
 use borrow.Author.Needs.{needs}
-use mathlib.Core.Path.{refl}
+use mathlib.Core.Path.{_∙_, ap}
+use mathlib.Core.Bool.{cond}
 use Rattle.run.specs.Record.{bytes}
 use Rattle.pieces.proofs.AppendLaws.{append-stays, append-writes}
 use Rattle.pieces.proofs.append.append_bytes_over.Statement.{statement}
@@ -7,21 +8,38 @@ use Rattle.pieces.proofs.append.append_bytes_over.Tie as tie
 
 returns : tie.Need-returns
 returns c =
-    let e = c .before .before .before .before .before .before .before .before in
-    let a = e .before .before .before .before .before .before .before .before .before .before .before .before .before .args in
-    append-stays (bytes (a .kind) (a .bytes .now)) refl (e .before .before .before .before .before .ill-formed .ensures) (e .before .before .before .before .before .before .bytes-size .ensures) (e .append .ensures) (c .if1 .taken)
+    let e = c .before .before .before .before .before .before .before in
+    let o = e .before .before .before .before .before in
+    let a = o .before .before .before .before .before .before .before .before .before .args in
+    append-stays (bytes (a .kind) (a .bytes .now)) (o .row .ensures ∙ ap (λ t. cond t 8 0) (o .before .ill-formed .ensures)) (o .before .before .bytes-size .ensures) (e .enter-over .ensures) (c .if1 .taken)
 
 returns-2 : tie.Need-returns-2
 returns-2 c =
-    let w = c .before .before in
-    let i = w .before .before in
-    let e = i .before .before .before .before .before .before .before .before in
-    let a = e .before .before .before .before .before .before .before .before .before .before .before .before .before .args in
-    append-writes (bytes (a .kind) (a .bytes .now)) refl (e .before .before .before .before .before .ill-formed .ensures) (e .before .before .before .before .before .before .bytes-size .ensures) (e .append .ensures) (i .if1 .left) (w .write-bytes .ensures)
+    let n = c .before .before .before .before .before .before in
+    let i = n .before .before in
+    let e = i .before .before .before .before .before .before .before in
+    let o = e .before .before .before .before .before in
+    let a = o .before .before .before .before .before .before .before .before .before .args in
+    append-writes (bytes (a .kind) (a .bytes .now)) (o .row .ensures ∙ ap (λ t. cond t 8 0) (o .before .ill-formed .ensures)) (o .before .before .bytes-size .ensures) (e .enter-over .ensures)
+    (i .if1 .left) (n .note .ensures .1) (c .before .before .write-bytes .ensures)
 
 pub append-bytes-over-spec : {M : Type 1} → statement M
 append-bytes-over-spec =
     tie.close
-    (tie.spec (λ c κs. search needs) (λ c κs. search needs) (λ c κs. search needs) (λ c. search needs)
-    (λ c. search needs) (λ c. search needs) (λ c. search needs) returns (λ c κs. search needs) (λ c. search needs)
-    (λ c. search needs) (λ c. search needs) (λ c. search needs) returns-2)
+    (tie.spec
+    (λ c κs. search needs)
+    (λ c κs. search needs)
+    (λ c κs. search needs)
+    (λ c κs. search needs)
+    (λ c. search needs)
+    (λ c. search needs)
+    (λ c. search needs)
+    (λ c. search needs)
+    returns
+    (λ c κs. search needs)
+    (λ c κs. search needs)
+    (λ c. search needs)
+    (λ c. search needs)
+    (λ c. search needs)
+    (λ c. search needs)
+    returns-2)

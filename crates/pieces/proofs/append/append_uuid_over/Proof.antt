@@ -14,23 +14,34 @@ whole s = good-length (eInt w8) 16 (s .args .uuid) _ (s .good .1 .1 .1 .1 .1 .1 
 
 returns : tie.Need-returns
 returns c =
-    let e = c .before .before .before .before .before .before .before .before in
+    let e = c .before .before .before .before .before .before .before in
     let s = e .before .before .before .before .before .before .before .before .before .before in
-    let a = s .args in
-    append-stays (uuid (a .uuid)) refl refl (uuid-size (a .uuid) (whole s)) (e .append .ensures) (c .if1 .taken)
+    append-stays (uuid (s .args .uuid)) {own = 0} {size = 17} refl (uuid-size (s .args .uuid) (whole s)) (e .enter-over .ensures) (c .if1 .taken)
 
 returns-2 : tie.Need-returns-2
 returns-2 c =
-    let w = c .before .before in
-    let i = w .before .before in
-    let e = i .before .before .before .before .before .before .before .before in
+    let n = c .before .before .before .before .before .before in
+    let i = n .before .before in
+    let e = i .before .before .before .before .before .before .before in
     let s = e .before .before .before .before .before .before .before .before .before .before in
     let a = s .args in
-    append-writes (uuid (a .uuid)) refl refl (uuid-size (a .uuid) (whole s)) (e .append .ensures) (i .if1 .left) (writes-uuid (a .v .counts .value) (a .uuid) (a .value .now) (whole s) (w .write-uuid .ensures))
+    append-writes (uuid (a .uuid)) {own = 0} {size = 17} refl (uuid-size (a .uuid) (whole s)) (e .enter-over .ensures)
+    (i .if1 .left) (n .note .ensures .1) (writes-uuid (a .v .counts .value) (a .uuid) (a .value .now) (whole s) (c .before .before .write-uuid .ensures))
 
 pub append-uuid-over-spec : {M : Type 1} → statement M
 append-uuid-over-spec =
     tie.close
-    (tie.spec (λ c κs. search needs) (λ c. search needs) (λ c. search needs) (λ c. search needs) (λ c. search needs)
-    returns (λ c κs. search needs) (λ c. search needs) (λ c. search needs) (λ c. search needs) (λ c. search needs)
+    (tie.spec
+    (λ c κs. search needs)
+    (λ c. search needs)
+    (λ c. search needs)
+    (λ c. search needs)
+    (λ c. search needs)
+    returns
+    (λ c κs. search needs)
+    (λ c κs. search needs)
+    (λ c. search needs)
+    (λ c. search needs)
+    (λ c. search needs)
+    (λ c. search needs)
     returns-2)

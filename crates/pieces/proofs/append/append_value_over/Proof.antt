@@ -1,5 +1,6 @@
 use borrow.Author.Needs.{needs}
-use mathlib.Core.Path.{refl}
+use mathlib.Core.Path.{_∙_, ap}
+use mathlib.Core.Bool.{cond}
 use Rattle.run.specs.Record.{fixed}
 use Rattle.pieces.proofs.AppendLaws.{append-stays, append-writes}
 use Rattle.pieces.proofs.append.append_value_over.Statement.{statement}
@@ -7,21 +8,38 @@ use Rattle.pieces.proofs.append.append_value_over.Tie as tie
 
 returns : tie.Need-returns
 returns c =
-    let e = c .before .before .before .before .before .before .before .before in
-    let a = e .before .before .before .before .before .before .before .before .before .before .before .before .args in
-    append-stays (fixed (a .x)) (e .before .out-of-range .ensures) refl (e .before .before .before .before .before .before .variant-size .ensures) (e .append .ensures) (c .if1 .taken)
+    let e = c .before .before .before .before .before .before .before in
+    let o = e .before .before .before .before .before in
+    let a = o .before .before .before .before .before .before .before .before .args in
+    append-stays (fixed (a .x)) (o .row .ensures ∙ ap (λ t. cond t 7 0) (o .before .out-of-range .ensures)) (o .before .before .variant-size .ensures) (e .enter-over .ensures) (c .if1 .taken)
 
 returns-2 : tie.Need-returns-2
 returns-2 c =
-    let w = c .before .before in
-    let i = w .before .before in
-    let e = i .before .before .before .before .before .before .before .before in
-    let a = e .before .before .before .before .before .before .before .before .before .before .before .before .args in
-    append-writes (fixed (a .x)) (e .before .out-of-range .ensures) refl (e .before .before .before .before .before .before .variant-size .ensures) (e .append .ensures) (i .if1 .left) (w .write-variant .ensures)
+    let n = c .before .before .before .before .before .before in
+    let i = n .before .before in
+    let e = i .before .before .before .before .before .before .before in
+    let o = e .before .before .before .before .before in
+    let a = o .before .before .before .before .before .before .before .before .args in
+    append-writes (fixed (a .x)) (o .row .ensures ∙ ap (λ t. cond t 7 0) (o .before .out-of-range .ensures)) (o .before .before .variant-size .ensures) (e .enter-over .ensures)
+    (i .if1 .left) (n .note .ensures .1) (c .before .before .write-variant .ensures)
 
 pub append-value-over-spec : {M : Type 1} → statement M
 append-value-over-spec =
     tie.close
-    (tie.spec (λ c κs. search needs) (λ c κs. search needs) (λ c κs. search needs) (λ c. search needs)
-    (λ c. search needs) (λ c. search needs) (λ c. search needs) returns (λ c κs. search needs) (λ c. search needs)
-    (λ c. search needs) (λ c. search needs) (λ c. search needs) returns-2)
+    (tie.spec
+    (λ c κs. search needs)
+    (λ c κs. search needs)
+    (λ c κs. search needs)
+    (λ c κs. search needs)
+    (λ c. search needs)
+    (λ c. search needs)
+    (λ c. search needs)
+    (λ c. search needs)
+    returns
+    (λ c κs. search needs)
+    (λ c κs. search needs)
+    (λ c. search needs)
+    (λ c. search needs)
+    (λ c. search needs)
+    (λ c. search needs)
+    returns-2)

@@ -2,9 +2,9 @@
 use borrow.Author.Needs.{needs}
 use mathlib.Core.Path.{sym, _∙_}
 use Rattle.table.specs.Decide.{stored}
-use Rattle.table.proofs.RowLaws.{append-decides, decides-broken}
-use Rattle.table.proofs.numbers.append_number.Statement.{statement}
-use Rattle.table.proofs.numbers.append_number.Tie as tie
+use Rattle.table.proofs.RowLaws.{enter-decides, decides-broken}
+use Rattle.table.proofs.numbers.enter_number.Statement.{statement}
+use Rattle.table.proofs.numbers.enter_number.Tie as tie
 
 returns : tie.Need-returns
 returns c = decides-broken _ _ (sym (c .before .before .before .broken .ensures) ∙ c .before .before .if1 .taken) (c .before .no-field .ensures) (c .decided .ensures)
@@ -18,11 +18,11 @@ returns-2 c =
     let s = n .before .before .before in
     let b = s .before .before in
     let a = b .before .before .before .before .before .before .args in
-    append-decides (a .v) (stored (a .value .now) (a .text .now) (a .ends .now) (a .entries .now)) (a .named) (a .name .now)
-    (sym (b .broken .ensures) ∙ s .before .if1 .left) (s .field-of .ensures) (a .beyond) (a .bad) (a .size) (n .before .fits2 .ensures) (n .append-rows .ensures) (c .decided2 .ensures)
+    enter-decides (a .v) (stored (a .value .now) (a .text .now) (a .ends .now) (a .entries .now)) (a .named) (a .name .now)
+    (sym (b .broken .ensures) ∙ s .before .if1 .left) (s .field-of .ensures) (a .opens) (a .own) (a .size) (n .before .fits2 .ensures) (n .enter-rows .ensures) (c .decided2 .ensures)
 
-pub append-number-spec : {M : Type 1} → statement M
-append-number-spec =
+pub enter-number-spec : {M : Type 1} → statement M
+enter-number-spec =
     tie.close
     (tie.spec
     (λ c κs. search needs)

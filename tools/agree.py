@@ -578,7 +578,7 @@ use Rattle.run.specs.declared.Container.{Container}
 use Rattle.run.specs.declared.Counts.{Counts}
 use Rattle.run.specs.declared.ParentEntry.{ParentEntry}
 use Rattle.run.specs.declared.ParentEntry.the-variants.{New, Replaced}
-use Rattle.run.specs.Record.{Storage, State, Call}
+use Rattle.run.specs.Record.{Storage, storageOf, State, Call}
 use Rattle.run.specs.Step.{Outcome, step, lentOutput}
 
 -- a step as the model takes it; of the containers after it those that are open
@@ -605,7 +605,7 @@ state value names text entries depth sorted unique finished containers valueByte
             containers = containers;
             counts = record { value = value; entries = entries; depth = depth; dictionary = record { names = names; text = text; sorted = sorted }; unique = unique; finished = finished };
           };
-      storage = record { value = valueBytes; text = textBytes; ends = ends; entries = numbers };
+      storage = storageOf valueBytes textBytes ends numbers;
     }
 
 abbrev pub leaves : State → Call → State → List ℕ → ℕ → Check
@@ -680,6 +680,7 @@ use Rattle.encoding.specs.Width.{width}
 use Rattle.encoding.specs.Packed.{le, les, number}
 use Rattle.encoding.specs.Signed.{twos, whole}
 use Rattle.encoding.specs.Utf8.{table, follow, rest, utf8}
+use Rattle.encoding.specs.Rows.{first}
 use Rattle.encoding.specs.Slices.{write, shift}
 use Rattle.value.specs.Scalar.{scalarBytes}
 use Rattle.value.specs.declared.variant.Variant.the-variants as variant
@@ -695,7 +696,7 @@ use Rattle.run.specs.declared.ParentEntry.the-variants.{New, Replaced}
 use Rattle.run.specs.Record.{fixed, bytes, uuid, register, append, openIn, close, rollBack, uniqueness, finish}
 use Rattle.run.specs.Record.{rising, chained}
 use Rattle.run.specs.Damage.{overUsed, unchained, fallenEnds, misplacedInner, misplacedParent, damagedParent}
-use Rattle.run.specs.Table.{header, first, numberOf}
+use Rattle.run.specs.Table.{header, numberOf}
 use Rattle.run.specs.Step.{registered, appended, opened, newContainer, entriesClosed, closed, rolledBack, finished, dictionaryOf, after, step}
 use Rattle.run.specs.Step as steps
 use Rattle.agree.specs.Compare.{Check, box, state, leaves, refuses, alike, alikeParents, alikeContainers, begins, alikeCounts, alikeStorage, alikeStates, agrees, faults}

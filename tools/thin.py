@@ -40,7 +40,7 @@ def head(comment, names, uses, specs):
     return ['// Written by tools/thin.py: ' + comment] + ['use %s;' % n for n in names] + [
         'ghost use mathlib.Core.Path.{_≡_};', 'ghost use mathlib.Core.Bool.{false, true};',
         'ghost use Rattle.run.specs.Record.{%s};' % uses,
-        'ghost use Rattle.table.specs.Decide.{nameOf, stored};'] + specs
+        'ghost use Rattle.table.specs.Decide.{nameOf};'] + specs
 
 
 def function(head, record, ps, result, contract, comment, body):
@@ -145,7 +145,7 @@ def proof(name, ps, result, contract, bridge):
           'use denote.Struct.Laws as LL' if bridge else 'use denote.Ref.{ptr-vals, mut-tells}',
           'use denote.Triple.Spec.{Meets, tripleOf}', 'use denote.Triple.Statement.{Triple}', 'use denote.Triple.Table.{entered, cited}',
           'use Rattle.run.specs.Record.{%s}' % ', '.join(r for r in RECORD.split(', ') if used(r.split(' as ')[-1])),
-          'use Rattle.run.specs.Step.{step}', 'use Rattle.table.specs.Decide.{%s}' % ', '.join(w for w in ('nameOf', 'stored') if used(w)),
+          'use Rattle.run.specs.Step.{step}'] + (['use Rattle.table.specs.Decide.{nameOf}'] if used('nameOf') else []) + [
           'use Rattle.builder.specs.Calls.{%s, state}' % does, 'use Rattle.calls.specs.Calls.{%sThin}' % does,
           'use Rattle.run.proofs.Builder as B']
     L += ['use Rattle.run.proofs.Builder.Laws as B′'] if bridge else []

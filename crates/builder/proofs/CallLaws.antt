@@ -15,7 +15,7 @@ use Rattle.run.specs.declared.Counts.{Counts}
 use Rattle.run.specs.declared.View.{View}
 use Rattle.run.specs.Record.{Storage, Call, openIn, uniqueness, finish, viewOf, innermost, inObject, rising, chained}
 use Rattle.run.specs.Damage.{overUsed, grown, unchained}
-use Rattle.run.proofs.Demand1.{number-none}
+use Rattle.run.proofs.Demand1.{none-at}
 use Rattle.table.proofs.ViewLaws.{neither}
 use Rattle.run.specs.Table.{numberOf}
 use Rattle.run.specs.Step.{step, after, carriedOut, containersAfter, newContainer, marked}
@@ -106,7 +106,7 @@ module _ (b : Builder) (l : Storage) (nm : Option Name) (object : Bool) {v : Vie
   pub opened-deep : r .number ≡ 0 → b .counts .depth < 64
   opened-deep h =
       let w = rw p at q in
-      leb-false 64 (b .counts .depth) (number-none (viewOf b) l (openIn nm object) .0 (sym (w .number) ∙ h) .1 .1 .1 .1 .1 .1 .0)
+      leb-false 64 (b .counts .depth) (none-at (viewOf b) l (openIn nm object) (sym (w .number) ∙ h) 11)
 
 -- the uniqueness mark
 module _ (b : Builder) (l : Storage) (u : Bool) {v : View} {n : ℕ} (p : v ≡ viewOf b) (q : (u : Bool) → n ≡ numberOf v l (uniqueness u)) where
@@ -129,10 +129,10 @@ module _ (b : Builder) (l : Storage) (u : Bool) {v : View} {n : ℕ} (p : v ≡ 
   unfolding unchained chained
   unique-open h =
       let w : n ≡ numberOf (viewOf b) l (uniqueness u) = rw p at (q u) in
-      let k = number-none (viewOf b) l (uniqueness u) .0 (sym w ∙ h) in
+      let k = none-at (viewOf b) l (uniqueness u) (sym w ∙ h) in
       let d = b .counts .depth in
-      let i = and-eq-true-iff (ltb 0 d) (innermost (b .containers) d .object) .0 (not-false (inObject (viewOf b)) (k .1 .1 .0)) in
-      let g = neither (overUsed (viewOf b) l) (unchained (viewOf b) || false) (k .0) in
+      let i = and-eq-true-iff (ltb 0 d) (innermost (b .containers) d .object) .0 (not-false (inObject (viewOf b)) (k 3)) in
+      let g = neither (overUsed (viewOf b) l) (unchained (viewOf b) || false) (k 1) in
       let f = neither (unchained (viewOf b)) false (g .1) in
       let c = and-eq-true-iff (chained (b .containers) d) (grown (viewOf b)) .0 (not-false (chained (b .containers) d && grown (viewOf b)) (f .0)) in
       (ltb-true 0 d (i .0), leb-true d 64 (and-eq-true-iff (leb d 64) (rising (b .containers) (d - 1)) .0 (c .0) .0))

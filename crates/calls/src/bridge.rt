@@ -7,8 +7,8 @@ use value::variant::Variant;
 use value::variant::VariantBytes;
 ghost use mathlib.Core.Path.{_≡_};
 ghost use mathlib.Core.Bool.{false, true};
-ghost use Rattle.run.specs.Record.{append as appendOf, bytes as bytesOf, close as closeOf, finish as finishOf, fixed, openIn, register as registerOf, rollBack, uniqueness, uuid as uuidOf};
-ghost use Rattle.table.specs.Decide.{nameOf, stored};
+ghost use Rattle.run.specs.Record.{append as appendOf, bytes as bytesOf, close as closeOf, finish as finishOf, fixed, openIn, register as registerOf, rollBack, uniqueness, uuid as uuidOf, storageOf};
+ghost use Rattle.table.specs.Decide.{nameOf};
 ghost use Rattle.run.specs.Step.{step};
 ghost use Rattle.builder.specs.Calls.{Does, Finishes, state};
 
@@ -20,7 +20,7 @@ pub(crate) fn add_field_name_lent(
     entries: &[usize],
     name: &[u8],
 ) -> Called
-    ensures { λ r. ⌜ Does r (stored (now (value .entry)) (now (text .exit)) (now (ends .exit)) (now (entries .entry))) (step (state b (stored (now (value .entry)) (now (text .entry)) (now (ends .entry)) (now (entries .entry)))) (registerOf (now (name .entry)))) ⌝ }
+    ensures { λ r. ⌜ Does r (storageOf (now (value .entry)) (now (text .exit)) (now (ends .exit)) (now (entries .entry))) (step (state b (storageOf (now (value .entry)) (now (text .entry)) (now (ends .entry)) (now (entries .entry)))) (registerOf (now (name .entry)))) ⌝ }
 {
     let mut c = b;
     let a = thin::add_field_name(&mut c, value, text, ends, entries, name);
@@ -41,7 +41,7 @@ pub(crate) fn append_value_lent(
     name: &[u8],
     x: Variant,
 ) -> Called
-    ensures { λ r. ⌜ Does r (stored (now (value .exit)) (now (text .exit)) (now (ends .exit)) (now (entries .exit))) (step (state b (stored (now (value .entry)) (now (text .entry)) (now (ends .entry)) (now (entries .entry)))) (appendOf (nameOf named (now (name .entry))) (fixed x))) ⌝ }
+    ensures { λ r. ⌜ Does r (storageOf (now (value .exit)) (now (text .exit)) (now (ends .exit)) (now (entries .exit))) (step (state b (storageOf (now (value .entry)) (now (text .entry)) (now (ends .entry)) (now (entries .entry)))) (appendOf (nameOf named (now (name .entry))) (fixed x))) ⌝ }
 {
     let mut c = b;
     let a = thin::append_value(&mut c, value, text, ends, entries, named, name, x);
@@ -63,7 +63,7 @@ pub(crate) fn append_bytes_lent(
     kind: VariantBytes,
     bytes: &[u8],
 ) -> Called
-    ensures { λ r. ⌜ Does r (stored (now (value .exit)) (now (text .exit)) (now (ends .exit)) (now (entries .exit))) (step (state b (stored (now (value .entry)) (now (text .entry)) (now (ends .entry)) (now (entries .entry)))) (appendOf (nameOf named (now (name .entry))) (bytesOf kind (now (bytes .entry))))) ⌝ }
+    ensures { λ r. ⌜ Does r (storageOf (now (value .exit)) (now (text .exit)) (now (ends .exit)) (now (entries .exit))) (step (state b (storageOf (now (value .entry)) (now (text .entry)) (now (ends .entry)) (now (entries .entry)))) (appendOf (nameOf named (now (name .entry))) (bytesOf kind (now (bytes .entry))))) ⌝ }
 {
     let mut c = b;
     let a = thin::append_bytes(&mut c, value, text, ends, entries, named, name, kind, bytes);
@@ -84,7 +84,7 @@ pub(crate) fn append_uuid_lent(
     name: &[u8],
     uuid: [u8; 16],
 ) -> Called
-    ensures { λ r. ⌜ Does r (stored (now (value .exit)) (now (text .exit)) (now (ends .exit)) (now (entries .exit))) (step (state b (stored (now (value .entry)) (now (text .entry)) (now (ends .entry)) (now (entries .entry)))) (appendOf (nameOf named (now (name .entry))) (uuidOf uuid))) ⌝ }
+    ensures { λ r. ⌜ Does r (storageOf (now (value .exit)) (now (text .exit)) (now (ends .exit)) (now (entries .exit))) (step (state b (storageOf (now (value .entry)) (now (text .entry)) (now (ends .entry)) (now (entries .entry)))) (appendOf (nameOf named (now (name .entry))) (uuidOf uuid))) ⌝ }
 {
     let mut c = b;
     let a = thin::append_uuid(&mut c, value, text, ends, entries, named, name, uuid);
@@ -104,7 +104,7 @@ pub(crate) fn new_list_lent(
     named: bool,
     name: &[u8],
 ) -> Called
-    ensures { λ r. ⌜ Does r (stored (now (value .entry)) (now (text .exit)) (now (ends .exit)) (now (entries .exit))) (step (state b (stored (now (value .entry)) (now (text .entry)) (now (ends .entry)) (now (entries .entry)))) (openIn (nameOf named (now (name .entry))) false)) ⌝ }
+    ensures { λ r. ⌜ Does r (storageOf (now (value .entry)) (now (text .exit)) (now (ends .exit)) (now (entries .exit))) (step (state b (storageOf (now (value .entry)) (now (text .entry)) (now (ends .entry)) (now (entries .entry)))) (openIn (nameOf named (now (name .entry))) false)) ⌝ }
 {
     let mut c = b;
     let a = thin::new_list(&mut c, value, text, ends, entries, named, name);
@@ -124,7 +124,7 @@ pub(crate) fn new_object_lent(
     named: bool,
     name: &[u8],
 ) -> Called
-    ensures { λ r. ⌜ Does r (stored (now (value .entry)) (now (text .exit)) (now (ends .exit)) (now (entries .exit))) (step (state b (stored (now (value .entry)) (now (text .entry)) (now (ends .entry)) (now (entries .entry)))) (openIn (nameOf named (now (name .entry))) true)) ⌝ }
+    ensures { λ r. ⌜ Does r (storageOf (now (value .entry)) (now (text .exit)) (now (ends .exit)) (now (entries .exit))) (step (state b (storageOf (now (value .entry)) (now (text .entry)) (now (ends .entry)) (now (entries .entry)))) (openIn (nameOf named (now (name .entry))) true)) ⌝ }
 {
     let mut c = b;
     let a = thin::new_object(&mut c, value, text, ends, entries, named, name);
@@ -142,7 +142,7 @@ pub(crate) fn close_lent(
     ends: &[usize],
     entries: &mut [usize],
 ) -> Called
-    ensures { λ r. ⌜ Does r (stored (now (value .exit)) (now (text .entry)) (now (ends .entry)) (now (entries .exit))) (step (state b (stored (now (value .entry)) (now (text .entry)) (now (ends .entry)) (now (entries .entry)))) closeOf) ⌝ }
+    ensures { λ r. ⌜ Does r (storageOf (now (value .exit)) (now (text .entry)) (now (ends .entry)) (now (entries .exit))) (step (state b (storageOf (now (value .entry)) (now (text .entry)) (now (ends .entry)) (now (entries .entry)))) closeOf) ⌝ }
 {
     let mut c = b;
     let a = thin::close(&mut c, value, text, ends, entries);
@@ -160,7 +160,7 @@ pub(crate) fn rollback_lent(
     ends: &[usize],
     entries: &mut [usize],
 ) -> Called
-    ensures { λ r. ⌜ Does r (stored (now (value .entry)) (now (text .entry)) (now (ends .entry)) (now (entries .exit))) (step (state b (stored (now (value .entry)) (now (text .entry)) (now (ends .entry)) (now (entries .entry)))) rollBack) ⌝ }
+    ensures { λ r. ⌜ Does r (storageOf (now (value .entry)) (now (text .entry)) (now (ends .entry)) (now (entries .exit))) (step (state b (storageOf (now (value .entry)) (now (text .entry)) (now (ends .entry)) (now (entries .entry)))) rollBack) ⌝ }
 {
     let mut c = b;
     let a = thin::rollback(&mut c, value, text, ends, entries);
@@ -179,7 +179,7 @@ pub(crate) fn with_validate_unique_fields_lent(
     entries: &[usize],
     unique: bool,
 ) -> Called
-    ensures { λ r. ⌜ Does r (stored (now (value .entry)) (now (text .entry)) (now (ends .entry)) (now (entries .entry))) (step (state b (stored (now (value .entry)) (now (text .entry)) (now (ends .entry)) (now (entries .entry)))) (uniqueness unique)) ⌝ }
+    ensures { λ r. ⌜ Does r (storageOf (now (value .entry)) (now (text .entry)) (now (ends .entry)) (now (entries .entry))) (step (state b (storageOf (now (value .entry)) (now (text .entry)) (now (ends .entry)) (now (entries .entry)))) (uniqueness unique)) ⌝ }
 {
     let mut c = b;
     let a = thin::with_validate_unique_fields(&mut c, value, text, ends, entries, unique);
@@ -198,7 +198,7 @@ pub(crate) fn finish_lent(
     entries: &[usize],
     out: &mut [u8],
 ) -> FinishCalled
-    ensures { λ r. ⌜ Finishes r (stored (now (value .entry)) (now (text .entry)) (now (ends .entry)) (now (entries .entry))) (now (out .exit)) (step (state b (stored (now (value .entry)) (now (text .entry)) (now (ends .entry)) (now (entries .entry)))) (finishOf (now (out .entry)))) ⌝ }
+    ensures { λ r. ⌜ Finishes r (storageOf (now (value .entry)) (now (text .entry)) (now (ends .entry)) (now (entries .entry))) (now (out .exit)) (step (state b (storageOf (now (value .entry)) (now (text .entry)) (now (ends .entry)) (now (entries .entry)))) (finishOf (now (out .entry)))) ⌝ }
 {
     let mut c = b;
     let a = thin::finish(&mut c, value, text, ends, entries, out);

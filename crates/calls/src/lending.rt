@@ -17,7 +17,7 @@ use builder::FinishAnswer;
 use builder::FinishCalled;
 use run::Builder;
 ghost use mathlib.Core.Path.{_≡_};
-ghost use Rattle.table.specs.Decide.{stored};
+ghost use Rattle.run.specs.Record.{storageOf};
 ghost use Rattle.builder.specs.Calls.{state};
 ghost use Rattle.calls.specs.Calls.{callOf, finishedBy, lentBy, lentStep, outcomeOf};
 
@@ -34,7 +34,7 @@ pub fn lend(
     uuid: [u8; 16],
     out: &mut [u8],
 ) -> LendCalled
-    ensures { λ r. ⌜ outcomeOf r (stored (now (value .exit)) (now (text .exit)) (now (ends .exit)) (now (entries .exit))) (now (out .exit)) ≡ lentStep (state b (stored (now (value .entry)) (now (text .entry)) (now (ends .entry)) (now (entries .entry)))) (callOf call named (now (name .entry)) (now (bytes .entry)) uuid (now (out .entry))) (now (out .entry)) ⌝ }
+    ensures { λ r. ⌜ outcomeOf r (storageOf (now (value .exit)) (now (text .exit)) (now (ends .exit)) (now (entries .exit))) (now (out .exit)) ≡ lentStep (state b (storageOf (now (value .entry)) (now (text .entry)) (now (ends .entry)) (now (entries .entry)))) (callOf call named (now (name .entry)) (now (bytes .entry)) uuid (now (out .entry))) (now (out .entry)) ⌝ }
 {
     match call {
         Call::AddFieldName => lent(add_field_name_lent(b, value, text, ends, entries, name)),

@@ -6,8 +6,8 @@ use value::variant::Variant;
 use value::variant::VariantBytes;
 ghost use mathlib.Core.Path.{_≡_};
 ghost use mathlib.Core.Bool.{false, true};
-ghost use Rattle.run.specs.Record.{append as appendOf, bytes as bytesOf, close as closeOf, finish as finishOf, fixed, openIn, register as registerOf, rollBack, uniqueness, uuid as uuidOf};
-ghost use Rattle.table.specs.Decide.{nameOf, stored};
+ghost use Rattle.run.specs.Record.{append as appendOf, bytes as bytesOf, close as closeOf, finish as finishOf, fixed, openIn, register as registerOf, rollBack, uniqueness, uuid as uuidOf, storageOf};
+ghost use Rattle.table.specs.Decide.{nameOf};
 ghost use Rattle.builder.specs.Calls.{state};
 ghost use Rattle.calls.specs.Calls.{DoesThin, FinishesThin};
 
@@ -20,7 +20,7 @@ pub fn add_field_name(
     entries: &[usize],
     name: &[u8],
 ) -> Answer
-    ensures { λ r. ⌜ DoesThin r (now (b .exit)) (stored (now (value .entry)) (now (text .exit)) (now (ends .exit)) (now (entries .entry))) (state (now (b .entry)) (stored (now (value .entry)) (now (text .entry)) (now (ends .entry)) (now (entries .entry)))) (registerOf (now (name .entry))) ⌝ }
+    ensures { λ r. ⌜ DoesThin r (now (b .exit)) (storageOf (now (value .entry)) (now (text .exit)) (now (ends .exit)) (now (entries .entry))) (state (now (b .entry)) (storageOf (now (value .entry)) (now (text .entry)) (now (ends .entry)) (now (entries .entry)))) (registerOf (now (name .entry))) ⌝ }
 {
     let c = *b;
     let r = builder::add_field_name(c, value, text, ends, entries, name);
@@ -39,7 +39,7 @@ pub fn append_value(
     name: &[u8],
     x: Variant,
 ) -> Answer
-    ensures { λ r. ⌜ DoesThin r (now (b .exit)) (stored (now (value .exit)) (now (text .exit)) (now (ends .exit)) (now (entries .exit))) (state (now (b .entry)) (stored (now (value .entry)) (now (text .entry)) (now (ends .entry)) (now (entries .entry)))) (appendOf (nameOf named (now (name .entry))) (fixed x)) ⌝ }
+    ensures { λ r. ⌜ DoesThin r (now (b .exit)) (storageOf (now (value .exit)) (now (text .exit)) (now (ends .exit)) (now (entries .exit))) (state (now (b .entry)) (storageOf (now (value .entry)) (now (text .entry)) (now (ends .entry)) (now (entries .entry)))) (appendOf (nameOf named (now (name .entry))) (fixed x)) ⌝ }
 {
     let c = *b;
     let r = builder::append_value(c, value, text, ends, entries, named, name, x);
@@ -59,7 +59,7 @@ pub fn append_bytes(
     kind: VariantBytes,
     bytes: &[u8],
 ) -> Answer
-    ensures { λ r. ⌜ DoesThin r (now (b .exit)) (stored (now (value .exit)) (now (text .exit)) (now (ends .exit)) (now (entries .exit))) (state (now (b .entry)) (stored (now (value .entry)) (now (text .entry)) (now (ends .entry)) (now (entries .entry)))) (appendOf (nameOf named (now (name .entry))) (bytesOf kind (now (bytes .entry)))) ⌝ }
+    ensures { λ r. ⌜ DoesThin r (now (b .exit)) (storageOf (now (value .exit)) (now (text .exit)) (now (ends .exit)) (now (entries .exit))) (state (now (b .entry)) (storageOf (now (value .entry)) (now (text .entry)) (now (ends .entry)) (now (entries .entry)))) (appendOf (nameOf named (now (name .entry))) (bytesOf kind (now (bytes .entry)))) ⌝ }
 {
     let c = *b;
     let r = builder::append_bytes(c, value, text, ends, entries, named, name, kind, bytes);
@@ -77,7 +77,7 @@ pub fn append_uuid(
     name: &[u8],
     uuid: [u8; 16],
 ) -> Answer
-    ensures { λ r. ⌜ DoesThin r (now (b .exit)) (stored (now (value .exit)) (now (text .exit)) (now (ends .exit)) (now (entries .exit))) (state (now (b .entry)) (stored (now (value .entry)) (now (text .entry)) (now (ends .entry)) (now (entries .entry)))) (appendOf (nameOf named (now (name .entry))) (uuidOf uuid)) ⌝ }
+    ensures { λ r. ⌜ DoesThin r (now (b .exit)) (storageOf (now (value .exit)) (now (text .exit)) (now (ends .exit)) (now (entries .exit))) (state (now (b .entry)) (storageOf (now (value .entry)) (now (text .entry)) (now (ends .entry)) (now (entries .entry)))) (appendOf (nameOf named (now (name .entry))) (uuidOf uuid)) ⌝ }
 {
     let c = *b;
     let r = builder::append_uuid(c, value, text, ends, entries, named, name, uuid);
@@ -94,7 +94,7 @@ pub fn new_list(
     named: bool,
     name: &[u8],
 ) -> Answer
-    ensures { λ r. ⌜ DoesThin r (now (b .exit)) (stored (now (value .entry)) (now (text .exit)) (now (ends .exit)) (now (entries .exit))) (state (now (b .entry)) (stored (now (value .entry)) (now (text .entry)) (now (ends .entry)) (now (entries .entry)))) (openIn (nameOf named (now (name .entry))) false) ⌝ }
+    ensures { λ r. ⌜ DoesThin r (now (b .exit)) (storageOf (now (value .entry)) (now (text .exit)) (now (ends .exit)) (now (entries .exit))) (state (now (b .entry)) (storageOf (now (value .entry)) (now (text .entry)) (now (ends .entry)) (now (entries .entry)))) (openIn (nameOf named (now (name .entry))) false) ⌝ }
 {
     let c = *b;
     let r = builder::new_list(c, value, text, ends, entries, named, name);
@@ -111,7 +111,7 @@ pub fn new_object(
     named: bool,
     name: &[u8],
 ) -> Answer
-    ensures { λ r. ⌜ DoesThin r (now (b .exit)) (stored (now (value .entry)) (now (text .exit)) (now (ends .exit)) (now (entries .exit))) (state (now (b .entry)) (stored (now (value .entry)) (now (text .entry)) (now (ends .entry)) (now (entries .entry)))) (openIn (nameOf named (now (name .entry))) true) ⌝ }
+    ensures { λ r. ⌜ DoesThin r (now (b .exit)) (storageOf (now (value .entry)) (now (text .exit)) (now (ends .exit)) (now (entries .exit))) (state (now (b .entry)) (storageOf (now (value .entry)) (now (text .entry)) (now (ends .entry)) (now (entries .entry)))) (openIn (nameOf named (now (name .entry))) true) ⌝ }
 {
     let c = *b;
     let r = builder::new_object(c, value, text, ends, entries, named, name);
@@ -126,7 +126,7 @@ pub fn close(
     ends: &[usize],
     entries: &mut [usize],
 ) -> Answer
-    ensures { λ r. ⌜ DoesThin r (now (b .exit)) (stored (now (value .exit)) (now (text .entry)) (now (ends .entry)) (now (entries .exit))) (state (now (b .entry)) (stored (now (value .entry)) (now (text .entry)) (now (ends .entry)) (now (entries .entry)))) closeOf ⌝ }
+    ensures { λ r. ⌜ DoesThin r (now (b .exit)) (storageOf (now (value .exit)) (now (text .entry)) (now (ends .entry)) (now (entries .exit))) (state (now (b .entry)) (storageOf (now (value .entry)) (now (text .entry)) (now (ends .entry)) (now (entries .entry)))) closeOf ⌝ }
 {
     let c = *b;
     let r = builder::close(c, value, text, ends, entries);
@@ -141,7 +141,7 @@ pub fn rollback(
     ends: &[usize],
     entries: &mut [usize],
 ) -> Answer
-    ensures { λ r. ⌜ DoesThin r (now (b .exit)) (stored (now (value .entry)) (now (text .entry)) (now (ends .entry)) (now (entries .exit))) (state (now (b .entry)) (stored (now (value .entry)) (now (text .entry)) (now (ends .entry)) (now (entries .entry)))) rollBack ⌝ }
+    ensures { λ r. ⌜ DoesThin r (now (b .exit)) (storageOf (now (value .entry)) (now (text .entry)) (now (ends .entry)) (now (entries .exit))) (state (now (b .entry)) (storageOf (now (value .entry)) (now (text .entry)) (now (ends .entry)) (now (entries .entry)))) rollBack ⌝ }
 {
     let c = *b;
     let r = builder::rollback(c, value, text, ends, entries);
@@ -158,7 +158,7 @@ pub fn with_validate_unique_fields(
     entries: &[usize],
     unique: bool,
 ) -> Answer
-    ensures { λ r. ⌜ DoesThin r (now (b .exit)) (stored (now (value .entry)) (now (text .entry)) (now (ends .entry)) (now (entries .entry))) (state (now (b .entry)) (stored (now (value .entry)) (now (text .entry)) (now (ends .entry)) (now (entries .entry)))) (uniqueness unique) ⌝ }
+    ensures { λ r. ⌜ DoesThin r (now (b .exit)) (storageOf (now (value .entry)) (now (text .entry)) (now (ends .entry)) (now (entries .entry))) (state (now (b .entry)) (storageOf (now (value .entry)) (now (text .entry)) (now (ends .entry)) (now (entries .entry)))) (uniqueness unique) ⌝ }
 {
     let c = *b;
     let r = builder::with_validate_unique_fields(c, value, text, ends, entries, unique);
@@ -175,7 +175,7 @@ pub fn finish(
     entries: &[usize],
     out: &mut [u8],
 ) -> FinishAnswer
-    ensures { λ r. ⌜ FinishesThin r (now (b .exit)) (stored (now (value .entry)) (now (text .entry)) (now (ends .entry)) (now (entries .entry))) (now (out .exit)) (state (now (b .entry)) (stored (now (value .entry)) (now (text .entry)) (now (ends .entry)) (now (entries .entry)))) (finishOf (now (out .entry))) ⌝ }
+    ensures { λ r. ⌜ FinishesThin r (now (b .exit)) (storageOf (now (value .entry)) (now (text .entry)) (now (ends .entry)) (now (entries .entry))) (now (out .exit)) (state (now (b .entry)) (storageOf (now (value .entry)) (now (text .entry)) (now (ends .entry)) (now (entries .entry)))) (finishOf (now (out .entry))) ⌝ }
 {
     let c = *b;
     let r = builder::finish(c, value, text, ends, entries, out);

@@ -7,6 +7,7 @@ use Prim.Native.Nat.{ℕ, _-_, _<_, _≤_}
 use lib.Dec.{eqb}
 use lib.ListN.{length, set}
 use borrow.Author.Tests.{eqb-true, eqb-false, eq-eqb, ne-eqb}
+use Rattle.encoding.specs.Rows.{first}
 use Rattle.encoding.specs.declared.slices.Placed.{Placed}
 use Rattle.encoding.specs.Slices.{Writes}
 use Rattle.value.specs.Scalar.{scalarBytes}
@@ -15,10 +16,9 @@ use Rattle.run.specs.declared.Builder.{Builder}
 use Rattle.run.specs.declared.Container.{Container}
 use Rattle.run.specs.declared.ParentEntry.{ParentEntry}
 use Rattle.run.specs.declared.View.{View}
-use Rattle.run.specs.Record.{Storage, Call, Scalars, append, register, scalarOf, openIn, uniqueness, finish, viewOf}
-use Rattle.run.specs.Table.{badText, beyondRange, first, numberOf}
-use Rattle.table.specs.Decide.{enterRows, nameOf, stored}
-use Rattle.table.proofs.RowLaws.{ownScalar}
+use Rattle.run.specs.Record.{Storage, Call, Scalars, append, register, scalarOf, openIn, uniqueness, finish, viewOf, storageOf}
+use Rattle.run.specs.Table.{scalarRows, numberOf}
+use Rattle.table.specs.Decide.{enterRows, nameOf}
 use Rattle.run.specs.Run.{Fresh}
 use Rattle.run.specs.Step.{Outcome, step, after, containersAfter, marked}
 use Rattle.pieces.specs.declared.Moved.{Moved}
@@ -83,18 +83,18 @@ module _ (ws : List ℕ) (l : Storage) (nm : Option Name) (into opens : Bool) (o
   enters-done z w = record { enters = rw p at a; counts = λ h. w; kept = λ f. absurd (f z) }
 
 -- an append, from what is entered
-module _ (ws : List ℕ) (l : Storage) (nm : Option Name) (x : Scalars) {own size : ℕ} {e : Entered} {us text ends : List ℕ} (o : own ≡ ownScalar (beyondRange x) (badText x))
+module _ (ws : List ℕ) (l : Storage) (nm : Option Name) (x : Scalars) {own size : ℕ} {e : Entered} {us text ends : List ℕ} (o : own ≡ first (scalarRows x))
     (s : size ≡ length (scalarBytes (scalarOf x))) (w : EntersWords ws us l nm true false own size e text ends) where
-  pub does-refused : (e .number ≡ 0 → ⊥) → DoesWords (e .number) ws us (stored (l .value) text ends (l .entries)) (step (stateOf ws l) (append nm x))
+  pub does-refused : (e .number ≡ 0 → ⊥) → DoesWords (e .number) ws us (storageOf (l .value) text ends (l .entries)) (step (stateOf ws l) (append nm x))
   does-refused z = does-moved ws l (append nm x) refl refl (append-stays x o s (w .enters) z) (puts-entered w)
 
   pub does-appended : {p : Placed} {value entries : List ℕ} → e .number ≡ 0 → entries ≡ entriesPut e (l .entries) → Writes (countsOf ws .value) (scalarBytes (scalarOf x)) (l .value) p value
-      → DoesWords 0 ws us (stored value text ends entries) (step (stateOf ws l) (append nm x))
+      → DoesWords 0 ws us (storageOf value text ends entries) (step (stateOf ws l) (append nm x))
   does-appended z g b = rw z at (does-moved ws l (append nm x) refl refl (append-writes x o s (w .enters) z g b) (puts-entered w))
 
 -- a name registered
 pub does-registered : (ws : List ℕ) (l : Storage) (name : Name) {e : Entered} {us text ends : List ℕ} → EntersWords ws us l (nameOf true name) false false 0 0 e text ends
-    → DoesWords (e .number) ws us (stored (l .value) text ends (l .entries)) (step (stateOf ws l) (register name))
+    → DoesWords (e .number) ws us (storageOf (l .value) text ends (l .entries)) (step (stateOf ws l) (register name))
 does-registered ws l name w = does-moved ws l (register name) refl refl (registers name (w .enters)) (puts-entered w)
 
 -- ---- from the call by value
@@ -124,14 +124,14 @@ module _ (ws : List ℕ) (l : Storage) (nm : Option Name) (object : Bool) {v : V
 
 -- an open, from what is entered
 module _ (ws : List ℕ) (l : Storage) (nm : Option Name) (object : Bool) {e : Entered} {us text ends : List ℕ} (w : EntersWords ws us l nm true true 0 0 e text ends) where
-  pub opens-stays : (e .number ≡ 0 → ⊥) → DoesWords (e .number) ws us (stored (l .value) text ends (l .entries)) (step (stateOf ws l) (openIn nm object))
+  pub opens-stays : (e .number ≡ 0 → ⊥) → DoesWords (e .number) ws us (storageOf (l .value) text ends (l .entries)) (step (stateOf ws l) (openIn nm object))
   opens-stays z = rw (w .kept z) (open-refused ws l nm object refl (opens-refused object (w .enters) z) z)
 
   pub opens-deep : e .number ≡ 0 → countsOf ws .depth < 64
   opens-deep z = enter-clears (viewOf (builderOf ws)) l nm true true 0 0 (sym (w .enters .number) ∙ z) .depth refl
 
   pub opens-done : {entries xs : List ℕ} {p : ParentEntry} {k : Container} → e .number ≡ 0 → (p ≡ parentPut e (l .entries)) × (entries ≡ entriesPut e (l .entries)) → k ≡ childOf (countsOf ws) e p object
-      → builderOf xs ≡ record { containers = set (containersOf us) (countsOf ws .depth) k; counts = countsOf us } → DoesWords 0 ws xs (stored (l .value) text ends entries) (step (stateOf ws l) (openIn nm object))
+      → builderOf xs ≡ record { containers = set (containersOf us) (countsOf ws .depth) k; counts = countsOf us } → DoesWords 0 ws xs (storageOf (l .value) text ends entries) (step (stateOf ws l) (openIn nm object))
   opens-done z g c d =
       let f : containersOf us ≡ containersOf ws = ap (λ (b : Builder). b .containers) (w .counts z) in
       let h : countsOf us ≡ e .counts = ap (λ (b : Builder). b .counts) (w .counts z) in

@@ -5,6 +5,7 @@ use mathlib.Core.List.{List, [], _∷_}
 use Prim.Native.Nat.{ℕ, zero, suc, _+_, _*_}
 use lib.Dec.{eqb}
 use lib.ListN.{getD}
+use Rattle.encoding.specs.Rows.{first}
 use Rattle.metadata.specs.Calls.{fresh}
 use Rattle.run.specs.declared.Builder.{Builder}
 use Rattle.run.specs.declared.Container.{Container}
@@ -15,7 +16,6 @@ use Rattle.run.specs.Record.{Storage, State, viewOf}
 use Rattle.run.specs.Step.{Outcome}
 use mathlib.Core.Option.{Option}
 use Rattle.metadata.specs.Names.{Name}
-use Rattle.run.specs.Table.{first}
 use Rattle.table.specs.Decide.{enterRows}
 use Rattle.pieces.specs.declared.enter.Entered.{Entered}
 use Rattle.pieces.specs.Pieces.{EntersBy}

@@ -32,9 +32,9 @@ use value::variant::out_of_range;
 ghost use mathlib.Core.Path.{_≡_};
 ghost use mathlib.Core.Bool.{false, true};
 ghost use lib.ListN.{length};
-ghost use Rattle.run.specs.Record.{append as appendOf, bytes as bytesOf, close as closeOf, finish as finishOf, fixed, openIn, register as registerOf, rollBack, uniqueness, uuid as uuidOf};
+ghost use Rattle.run.specs.Record.{append as appendOf, bytes as bytesOf, close as closeOf, finish as finishOf, fixed, openIn, register as registerOf, rollBack, uniqueness, uuid as uuidOf, storageOf};
 ghost use Rattle.run.specs.Step.{step};
-ghost use Rattle.table.specs.Decide.{nameOf, stored};
+ghost use Rattle.table.specs.Decide.{nameOf};
 ghost use Rattle.ffi.specs.Scalars.{kindOf, variantOf};
 ghost use Rattle.ffi.specs.Words.{DoesWords, EntersWords, FinishesWords, builderOf, containersOf, freshCounts, stateOf};
 
@@ -65,7 +65,7 @@ pub extern "C" fn variant_add_field_name(
     entries: &[usize],
     name: &[u8],
 ) -> u8
-    ensures { λ r. ⌜ DoesWords r (now (words .entry)) (now (words .exit)) (stored (now (value .entry)) (now (text .exit)) (now (ends .exit)) (now (entries .entry))) (step (stateOf (now (words .entry)) (stored (now (value .entry)) (now (text .entry)) (now (ends .entry)) (now (entries .entry)))) (registerOf (now (name .entry)))) ⌝ }
+    ensures { λ r. ⌜ DoesWords r (now (words .entry)) (now (words .exit)) (storageOf (now (value .entry)) (now (text .exit)) (now (ends .exit)) (now (entries .entry))) (step (stateOf (now (words .entry)) (storageOf (now (value .entry)) (now (text .entry)) (now (ends .entry)) (now (entries .entry)))) (registerOf (now (name .entry)))) ⌝ }
 {
     let e = enter(
         words,
@@ -92,7 +92,7 @@ pub extern "C" fn variant_close(
     ends: &[usize],
     entries: &mut [usize],
 ) -> u8
-    ensures { λ r. ⌜ DoesWords r (now (words .entry)) (now (words .exit)) (stored (now (value .exit)) (now (text .entry)) (now (ends .entry)) (now (entries .exit))) (step (stateOf (now (words .entry)) (stored (now (value .entry)) (now (text .entry)) (now (ends .entry)) (now (entries .entry)))) closeOf) ⌝ }
+    ensures { λ r. ⌜ DoesWords r (now (words .entry)) (now (words .exit)) (storageOf (now (value .exit)) (now (text .entry)) (now (ends .entry)) (now (entries .exit))) (step (stateOf (now (words .entry)) (storageOf (now (value .entry)) (now (text .entry)) (now (ends .entry)) (now (entries .entry)))) closeOf) ⌝ }
 {
     let v = view_of(words);
     let r = close_over(v, value, text, ends, entries);
@@ -108,7 +108,7 @@ pub extern "C" fn variant_rollback(
     ends: &[usize],
     entries: &mut [usize],
 ) -> u8
-    ensures { λ r. ⌜ DoesWords r (now (words .entry)) (now (words .exit)) (stored (now (value .entry)) (now (text .entry)) (now (ends .entry)) (now (entries .exit))) (step (stateOf (now (words .entry)) (stored (now (value .entry)) (now (text .entry)) (now (ends .entry)) (now (entries .entry)))) rollBack) ⌝ }
+    ensures { λ r. ⌜ DoesWords r (now (words .entry)) (now (words .exit)) (storageOf (now (value .entry)) (now (text .entry)) (now (ends .entry)) (now (entries .exit))) (step (stateOf (now (words .entry)) (storageOf (now (value .entry)) (now (text .entry)) (now (ends .entry)) (now (entries .entry)))) rollBack) ⌝ }
 {
     let v = view_of(words);
     let r = rollback_over(v, value, text, ends, entries);
@@ -131,7 +131,7 @@ pub extern "C" fn variant_append_value(
     low: u64,
     scale: u8,
 ) -> u8
-    ensures { λ r. ⌜ DoesWords r (now (words .entry)) (now (words .exit)) (stored (now (value .exit)) (now (text .exit)) (now (ends .exit)) (now (entries .exit))) (step (stateOf (now (words .entry)) (stored (now (value .entry)) (now (text .entry)) (now (ends .entry)) (now (entries .entry)))) (appendOf (nameOf named (now (name .entry))) (fixed (variantOf code z low scale)))) ⌝ }
+    ensures { λ r. ⌜ DoesWords r (now (words .entry)) (now (words .exit)) (storageOf (now (value .exit)) (now (text .exit)) (now (ends .exit)) (now (entries .exit))) (step (stateOf (now (words .entry)) (storageOf (now (value .entry)) (now (text .entry)) (now (ends .entry)) (now (entries .entry)))) (appendOf (nameOf named (now (name .entry))) (fixed (variantOf code z low scale)))) ⌝ }
 {
     let c = counts_of(words);
     let x = variant_of(code, z, low, scale);
@@ -171,7 +171,7 @@ pub extern "C" fn variant_append_bytes(
     kind: u8,
     bytes: &[u8],
 ) -> u8
-    ensures { λ r. ⌜ DoesWords r (now (words .entry)) (now (words .exit)) (stored (now (value .exit)) (now (text .exit)) (now (ends .exit)) (now (entries .exit))) (step (stateOf (now (words .entry)) (stored (now (value .entry)) (now (text .entry)) (now (ends .entry)) (now (entries .entry)))) (appendOf (nameOf named (now (name .entry))) (bytesOf (kindOf kind) (now (bytes .entry))))) ⌝ }
+    ensures { λ r. ⌜ DoesWords r (now (words .entry)) (now (words .exit)) (storageOf (now (value .exit)) (now (text .exit)) (now (ends .exit)) (now (entries .exit))) (step (stateOf (now (words .entry)) (storageOf (now (value .entry)) (now (text .entry)) (now (ends .entry)) (now (entries .entry)))) (appendOf (nameOf named (now (name .entry))) (bytesOf (kindOf kind) (now (bytes .entry))))) ⌝ }
 {
     let c = counts_of(words);
     let k = kind_of(kind);
@@ -209,7 +209,7 @@ pub extern "C" fn variant_append_uuid(
     name: &[u8],
     uuid: &[u8; 16],
 ) -> u8
-    ensures { λ r. ⌜ DoesWords r (now (words .entry)) (now (words .exit)) (stored (now (value .exit)) (now (text .exit)) (now (ends .exit)) (now (entries .exit))) (step (stateOf (now (words .entry)) (stored (now (value .entry)) (now (text .entry)) (now (ends .entry)) (now (entries .entry)))) (appendOf (nameOf named (now (name .entry))) (uuidOf (now (uuid .entry))))) ⌝ }
+    ensures { λ r. ⌜ DoesWords r (now (words .entry)) (now (words .exit)) (storageOf (now (value .exit)) (now (text .exit)) (now (ends .exit)) (now (entries .exit))) (step (stateOf (now (words .entry)) (storageOf (now (value .entry)) (now (text .entry)) (now (ends .entry)) (now (entries .entry)))) (appendOf (nameOf named (now (name .entry))) (uuidOf (now (uuid .entry))))) ⌝ }
 {
     sixteen(uuid);
     let c = counts_of(words);
@@ -245,7 +245,7 @@ pub extern "C" fn variant_new_list(
     named: bool,
     name: &[u8],
 ) -> u8
-    ensures { λ r. ⌜ DoesWords r (now (words .entry)) (now (words .exit)) (stored (now (value .entry)) (now (text .exit)) (now (ends .exit)) (now (entries .exit))) (step (stateOf (now (words .entry)) (stored (now (value .entry)) (now (text .entry)) (now (ends .entry)) (now (entries .entry)))) (openIn (nameOf named (now (name .entry))) false)) ⌝ }
+    ensures { λ r. ⌜ DoesWords r (now (words .entry)) (now (words .exit)) (storageOf (now (value .entry)) (now (text .exit)) (now (ends .exit)) (now (entries .exit))) (step (stateOf (now (words .entry)) (storageOf (now (value .entry)) (now (text .entry)) (now (ends .entry)) (now (entries .entry)))) (openIn (nameOf named (now (name .entry))) false)) ⌝ }
 {
     new_container(words, value, text, ends, entries, named, name, false)
 }
@@ -260,7 +260,7 @@ pub extern "C" fn variant_new_object(
     named: bool,
     name: &[u8],
 ) -> u8
-    ensures { λ r. ⌜ DoesWords r (now (words .entry)) (now (words .exit)) (stored (now (value .entry)) (now (text .exit)) (now (ends .exit)) (now (entries .exit))) (step (stateOf (now (words .entry)) (stored (now (value .entry)) (now (text .entry)) (now (ends .entry)) (now (entries .entry)))) (openIn (nameOf named (now (name .entry))) true)) ⌝ }
+    ensures { λ r. ⌜ DoesWords r (now (words .entry)) (now (words .exit)) (storageOf (now (value .entry)) (now (text .exit)) (now (ends .exit)) (now (entries .exit))) (step (stateOf (now (words .entry)) (storageOf (now (value .entry)) (now (text .entry)) (now (ends .entry)) (now (entries .entry)))) (openIn (nameOf named (now (name .entry))) true)) ⌝ }
 {
     new_container(words, value, text, ends, entries, named, name, true)
 }
@@ -275,7 +275,7 @@ fn new_container(
     name: &[u8],
     object: bool,
 ) -> u8
-    ensures { λ r. ⌜ DoesWords r (now (words .entry)) (now (words .exit)) (stored (now (value .entry)) (now (text .exit)) (now (ends .exit)) (now (entries .exit))) (step (stateOf (now (words .entry)) (stored (now (value .entry)) (now (text .entry)) (now (ends .entry)) (now (entries .entry)))) (openIn (nameOf named (now (name .entry))) object)) ⌝ }
+    ensures { λ r. ⌜ DoesWords r (now (words .entry)) (now (words .exit)) (storageOf (now (value .entry)) (now (text .exit)) (now (ends .exit)) (now (entries .exit))) (step (stateOf (now (words .entry)) (storageOf (now (value .entry)) (now (text .entry)) (now (ends .entry)) (now (entries .entry)))) (openIn (nameOf named (now (name .entry))) object)) ⌝ }
 {
     let c = counts_of(words);
     let e = enter(
@@ -310,7 +310,7 @@ pub extern "C" fn variant_with_validate_unique_fields(
     entries: &[usize],
     unique: bool,
 ) -> u8
-    ensures { λ r. ⌜ DoesWords r (now (words .entry)) (now (words .exit)) (stored (now (value .entry)) (now (text .entry)) (now (ends .entry)) (now (entries .entry))) (step (stateOf (now (words .entry)) (stored (now (value .entry)) (now (text .entry)) (now (ends .entry)) (now (entries .entry)))) (uniqueness unique)) ⌝ }
+    ensures { λ r. ⌜ DoesWords r (now (words .entry)) (now (words .exit)) (storageOf (now (value .entry)) (now (text .entry)) (now (ends .entry)) (now (entries .entry))) (step (stateOf (now (words .entry)) (storageOf (now (value .entry)) (now (text .entry)) (now (ends .entry)) (now (entries .entry)))) (uniqueness unique)) ⌝ }
 {
     let v = view_of(words);
     let n = unique_number(v, value, text, ends, entries);
@@ -343,7 +343,7 @@ pub extern "C" fn variant_finish(
     out: &mut [u8],
     written: &mut usize,
 ) -> u8
-    ensures { λ r. ⌜ FinishesWords r (now (words .entry)) (now (words .exit)) (stored (now (value .entry)) (now (text .entry)) (now (ends .entry)) (now (entries .entry))) (now (out .exit)) (now (written .entry)) (now (written .exit)) (step (stateOf (now (words .entry)) (stored (now (value .entry)) (now (text .entry)) (now (ends .entry)) (now (entries .entry)))) (finishOf (now (out .entry)))) ⌝ }
+    ensures { λ r. ⌜ FinishesWords r (now (words .entry)) (now (words .exit)) (storageOf (now (value .entry)) (now (text .entry)) (now (ends .entry)) (now (entries .entry))) (now (out .exit)) (now (written .entry)) (now (written .exit)) (step (stateOf (now (words .entry)) (storageOf (now (value .entry)) (now (text .entry)) (now (ends .entry)) (now (entries .entry)))) (finishOf (now (out .entry)))) ⌝ }
 {
     let v = view_of(words);
     let r = finish_over(v, value, text, ends, entries, out);
@@ -371,7 +371,7 @@ fn enter(
     own: u8,
     size: usize,
 ) -> Entered
-    ensures { λ r. ⌜ EntersWords (now (words .entry)) (now (words .exit)) (stored (now (value .entry)) (now (text .entry)) (now (ends .entry)) (now (entries .entry))) (nameOf named (now (name .entry))) into opens own size r (now (text .exit)) (now (ends .exit)) ⌝ }
+    ensures { λ r. ⌜ EntersWords (now (words .entry)) (now (words .exit)) (storageOf (now (value .entry)) (now (text .entry)) (now (ends .entry)) (now (entries .entry))) (nameOf named (now (name .entry))) into opens own size r (now (text .exit)) (now (ends .exit)) ⌝ }
 {
     let c = counts_of(words);
     let k = inner_of(words, c.depth);

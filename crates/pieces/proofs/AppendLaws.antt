@@ -1,5 +1,5 @@
 -- An append from its rows, its name and entry, and its scalar's bytes.
-use mathlib.Core.Path.{_≡_, refl, sym, _∙_, ap}
+use mathlib.Core.Path.{_≡_, sym, _∙_, ap}
 use mathlib.Core.Bool.{Bool, true, false, cond}
 use mathlib.Core.List.{List, _++_}
 use mathlib.Core.Option.{Option}
@@ -8,29 +8,31 @@ use lib.Dec.{eqb}
 use lib.ListN.{length, replicate, take}
 use lib.Seq.{take-append-seam}
 use borrow.Author.Tests.{eq-eqb, ne-eqb}
+use Rattle.encoding.specs.Rows.{first}
 use Rattle.encoding.specs.declared.slices.Placed.{Placed}
 use Rattle.encoding.specs.Slices.{Writes, write}
 use Rattle.value.specs.Scalar.{scalarBytes, storedUuid}
 use Rattle.metadata.specs.Names.{Name}
 use Rattle.run.specs.declared.View.{View}
-use Rattle.run.specs.Record.{Storage, Scalars, append, scalarOf, sixteen}
-use Rattle.run.specs.Table.{appendRows, badText, beyondRange, first, numberOf}
+use Rattle.run.specs.Record.{Storage, Scalars, append, scalarOf, sixteen, storageOf}
+use Rattle.run.specs.Table.{scalarRows, numberOf}
 use Rattle.run.specs.Step.{appended}
-use Rattle.table.specs.Decide.{enterRows, stored}
-use Rattle.table.proofs.RowLaws.{append-number, ownScalar}
+use Rattle.run.proofs.Demand1.{scalar-order}
+use Rattle.table.specs.Decide.{enterRows}
+use Rattle.table.proofs.RowLaws.{append-number}
 use Rattle.pieces.specs.declared.enter.Entered.{Entered}
 use Rattle.pieces.specs.Pieces.{EntersBy, Leaves, entriesPut}
 use Rattle.pieces.proofs.EnterLaws.{enter-clears}
 
-module _ {v : View} {l : Storage} {nm : Option Name} (x : Scalars) {own size : ℕ} {e : Entered} {text ends : List ℕ} (o : own ≡ ownScalar (beyondRange x) (badText x))
+module _ {v : View} {l : Storage} {nm : Option Name} (x : Scalars) {own size : ℕ} {e : Entered} {text ends : List ℕ} (o : own ≡ first (scalarRows x))
     (s : size ≡ length (scalarBytes (scalarOf x))) (a : EntersBy v l nm false size (first (enterRows v l nm true false own size)) e text ends) where
   -- the rows are the append's
   rows : first (enterRows v l nm true false own size) ≡ numberOf v l (append nm x)
   unfolding numberOf
-  rows = rw (o, s) (append-number v l nm (beyondRange x) (badText x) (length (scalarBytes (scalarOf x))))
+  rows = rw (o, s) (append-number v l nm (scalarRows x) (length (scalarBytes (scalarOf x))) (scalar-order x))
 
   -- refused: all is as it was
-  pub append-stays : (e .number ≡ 0 → ⊥) → Leaves v l (append nm x) (record { counts = e .counts; number = e .number }) (stored (l .value) text ends (l .entries))
+  pub append-stays : (e .number ≡ 0 → ⊥) → Leaves v l (append nm x) (record { counts = e .counts; number = e .number }) (storageOf (l .value) text ends (l .entries))
   append-stays z =
       let n = a .number ∙ rows in
       let y = ne-eqb (first (enterRows v l nm true false own size)) 0 (λ p. z (a .number ∙ p)) in
@@ -39,7 +41,7 @@ module _ {v : View} {l : Storage} {nm : Option Name} (x : Scalars) {own size : �
 
   -- carried out
   pub append-writes : {p : Placed} {value entries : List ℕ} → e .number ≡ 0 → entries ≡ entriesPut e (l .entries) → Writes (v .counts .value) (scalarBytes (scalarOf x)) (l .value) p value
-      → Leaves v l (append nm x) (record { counts = e .counts; number = e .number }) (stored value text ends entries)
+      → Leaves v l (append nm x) (record { counts = e .counts; number = e .number }) (storageOf value text ends entries)
   unfolding appended
   append-writes {p} {value} {entries} z g w =
       let n = sym (a .number) ∙ z in

@@ -7,6 +7,7 @@ use native.Mathlib.Omega.{arith}
 use lib.Dec.{eqb, leb, ltb}
 use lib.ListN.{length}
 use borrow.Author.Tests.{ltb-true, ltb-false, le-leb, not-false}
+use Rattle.encoding.specs.Rows.{first}
 use Rattle.encoding.specs.Slices.{counted, fits}
 use Rattle.metadata.specs.Names.{exceeds}
 use Rattle.container.specs.declared.Closed.{Closed}
@@ -16,12 +17,12 @@ use Rattle.container.specs.Entries.{idsOf, roomFor}
 use Rattle.container.specs.Close.{Closes, ClosesObject, closedNumber, freed, listFront, outside}
 use Rattle.container.proofs.ObjectLaws.{front-largest}
 use Rattle.run.specs.declared.View.{View}
-use Rattle.run.specs.Record.{Storage, close, innerEntries, isOpen, namesHeld}
+use Rattle.run.specs.Record.{Storage, close, innerEntries, isOpen, namesHeld, storageOf}
 use Rattle.run.specs.Damage.{damaged, grown, misread, overUsed, unchained}
-use Rattle.run.specs.Table.{first, header, numberOf, tooLong}
+use Rattle.run.specs.Table.{header, numberOf, tooLong}
 use Rattle.run.specs.Step.{closed, entriesClosed, withCounts}
 use Rattle.table.specs.declared.Closing.{Closing}
-use Rattle.table.specs.Decide.{ClosesBy, brokenOf, stored}
+use Rattle.table.specs.Decide.{ClosesBy, brokenOf}
 use Rattle.pieces.specs.Pieces.{Fronts, Leaves, frameOf}
 use Rattle.table.proofs.ViewLaws.{both, neither, past}
 use Rattle.pieces.proofs.EnterLaws.{refuses}
@@ -108,7 +109,7 @@ fronts-number {v} {l} k f = f .number ∙ (rw (k .inside, k .number) (go (fits (
 
 -- carried out
 pub leaves-closed : {v : View} {l : Storage} {m : ℕ} {r : Closed} {value entries : List ℕ} {used : ℕ} → Closable v l m → Fronts v l r value entries → r ≡ Done used
-    → Leaves v l close (record { counts = withCounts (v .counts) used (v .inner .entries) (v .counts .depth - 1) (v .counts .dictionary); number = 0 }) (stored value (l .text) (l .ends) entries)
+    → Leaves v l close (record { counts = withCounts (v .counts) used (v .inner .entries) (v .counts .depth - 1) (v .counts .dictionary); number = 0 }) (storageOf value (l .text) (l .ends) entries)
 unfolding closed
 leaves-closed {v} {l} {used = used} k f e =
     let z : numberOf v l close ≡ 0 = sym (fronts-number k f) ∙ ap closedNumber e in
@@ -117,7 +118,7 @@ leaves-closed {v} {l} {used = used} k f e =
 
 -- no room
 pub leaves-none : {v : View} {l : Storage} {m : ℕ} {r : Closed} {value entries : List ℕ} → Closable v l m → Fronts v l r value entries → r ≡ NoRoom
-    → Leaves v l close (record { counts = v .counts; number = 14 }) (stored value (l .text) (l .ends) entries)
+    → Leaves v l close (record { counts = v .counts; number = 14 }) (storageOf value (l .text) (l .ends) entries)
 leaves-none {v} {l} k f e =
     rw (f .bytes, f .entriesLeft, e) (refuses (sym (ap closedNumber e) ∙ fronts-number k f) (λ h. omega arith))
 

@@ -8,6 +8,7 @@ use native.Mathlib.Omega.{arith}
 use lib.ListN.{length, set}
 use lib.Dec.{ltb}
 use borrow.Author.Tests.{eq-eqb, ne-eqb, leb-false, leb-true, lt-ltb, not-false, not-true}
+use Rattle.encoding.specs.Rows.{first}
 use Rattle.encoding.specs.Slices.{counted, fits}
 use Rattle.metadata.specs.declared.MetadataBuilder.{MetadataBuilder}
 use Rattle.metadata.specs.declared.Added.{Added}
@@ -19,7 +20,7 @@ use Rattle.run.specs.declared.ParentEntry.the-variants.{New, Replaced}
 use Rattle.run.specs.declared.View.{View}
 use Rattle.run.specs.declared.Counts.{Counts}
 use Rattle.run.specs.Record.{Storage, Call, isOpen, innerSize, uniqueNow}
-use Rattle.run.specs.Table.{first, numberOf, held, live, liveUnder, namesFull, entriesFull}
+use Rattle.run.specs.Table.{numberOf, held, live, liveUnder, namesFull, entriesFull}
 use Rattle.run.specs.Step.{dictionaryWith, endsWith, entriesWith, parentWith, textWith, withCounts}
 use Rattle.table.specs.declared.Field.{Field}
 use Rattle.table.specs.declared.Decided.{Decided}
@@ -77,12 +78,12 @@ pub record Clears (v : View) (l : Storage) (nm : Option Name) (opens : Bool) (si
 
 pub enter-clears : (v : View) (l : Storage) (nm : Option Name) (into opens : Bool) (own size : ℕ) → first (enterRows v l nm into opens own size) ≡ 0 → Clears v l nm opens size
 enter-clears v l nm into opens own size e =
-    let c = enter-late v l nm into opens own size e .1 .1 in
+    let c = enter-late v l nm into opens own size e in
     record {
-      depth = λ o. leb-false 64 (v .counts .depth) (rw o at (c .0));
-      names = c .1 .0;
-      entries = c .1 .1 .0;
-      room = not-false (fits (v .counts .value) size (length (l .value))) (c .1 .1 .1 .0);
+      depth = λ o. leb-false 64 (v .counts .depth) (rw o at (c 11));
+      names = c 12;
+      entries = c 13;
+      room = not-false (fits (v .counts .value) size (length (l .value))) (c 14);
     }
 
 -- ---- what is entered

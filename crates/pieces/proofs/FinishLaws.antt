@@ -7,6 +7,7 @@ use native.Mathlib.Omega.{arith}
 use lib.Dec.{eqb, leb}
 use lib.ListN.{length}
 use borrow.Author.Tests.{ne-eqb, not-false}
+use Rattle.encoding.specs.Rows.{first}
 use Rattle.encoding.specs.Slices.{counted}
 use Rattle.metadata.specs.declared.Finished.{Finished}
 use Rattle.metadata.specs.declared.Finished.the-variants.{Damaged, NoRoom, Written}
@@ -17,7 +18,7 @@ use Rattle.metadata.proofs.BytesLaws.{dictionary-size, length-names, length-joi
 use Rattle.run.specs.declared.View.{View}
 use Rattle.run.specs.Record.{Storage, finish, isOpen, namesHeld}
 use Rattle.run.specs.Damage.{damaged, fallenEnds}
-use Rattle.run.specs.Table.{first, numberOf}
+use Rattle.run.specs.Table.{numberOf}
 use Rattle.run.specs.Step.{dictionaryOf, finished}
 use Rattle.table.specs.Decide.{brokenOf, finishBy}
 use Rattle.table.proofs.ViewLaws.{broken-finish, broken-number, damaged-none, ends-read, past}

@@ -7,31 +7,32 @@ use Prim.Native.Nat.{ℕ, _+_}
 use native.Mathlib.Omega.{arith}
 use lib.Dec.{eqb}
 use borrow.Author.Tests.{eq-eqb, eqb-true, ne-eqb}
+use Rattle.encoding.specs.Rows.{first}
 use Rattle.metadata.specs.Names.{Name}
 use Rattle.run.specs.declared.ParentEntry.{ParentEntry}
 use Rattle.run.specs.declared.Container.{Container}
 use Rattle.run.specs.declared.View.{View}
-use Rattle.run.specs.Record.{Storage, openIn, register, isOpen}
-use Rattle.run.specs.Table.{first, numberOf}
+use Rattle.run.specs.Record.{Storage, openIn, register, isOpen, storageOf}
+use Rattle.run.specs.Table.{numberOf}
 use Rattle.run.specs.Step.{newContainer, opened, registered}
-use Rattle.run.proofs.Demand1.{number-none}
-use Rattle.table.specs.Decide.{enterRows, nameOf, stored}
+use Rattle.run.proofs.Demand1.{none-at}
+use Rattle.table.specs.Decide.{enterRows, nameOf}
 use Rattle.table.proofs.RowLaws.{open-number, register-number}
 use Rattle.pieces.specs.declared.enter.Entered.{Entered}
 use Rattle.pieces.specs.Pieces.{EntersBy, Leaves, Opens, childOf, entriesPut, parentPut}
 
 -- ---- a name registered
 pub registers : {v : View} {l : Storage} (name : Name) {e : Entered} {text ends : List ℕ} → EntersBy v l (nameOf true name) false 0 (first (enterRows v l (nameOf true name) false false 0 0)) e text ends
-    → Leaves v l (register name) (record { counts = e .counts; number = e .number }) (stored (l .value) text ends (l .entries))
+    → Leaves v l (register name) (record { counts = e .counts; number = e .number }) (storageOf (l .value) text ends (l .entries))
 unfolding registered nameOf
 registers {v} {l} name {e} {text} {ends} a = go (eqb (numberOf v l (register name)) 0) refl
   where
     n : first (enterRows v l (some name) false false 0 0) ≡ numberOf v l (register name)
     n = register-number v l name
 
-    go : (t : Bool) → eqb (numberOf v l (register name)) 0 ≡ t → Leaves v l (register name) (record { counts = e .counts; number = e .number }) (stored (l .value) text ends (l .entries))
+    go : (t : Bool) → eqb (numberOf v l (register name)) 0 ≡ t → Leaves v l (register name) (record { counts = e .counts; number = e .number }) (storageOf (l .value) text ends (l .entries))
     go true z =
-        let o : isOpen v ≡ false = number-none v l (register name) .0 (eqb-true (numberOf v l (register name)) 0 z) .1 .1 .0 in
+        let o : isOpen v ≡ false = none-at v l (register name) (eqb-true (numberOf v l (register name)) 0 z) 4 in
         let w : v .counts .value + 0 ≡ v .counts .value = omega arith in
         record { number = a .number ∙ n; counts = rw (a .counts, n, z, o, w); storage = rw (a .textLeft, a .endsLeft, n, z) }
     go false z = record { number = a .number ∙ n; counts = rw (a .counts, n, z); storage = rw (a .textLeft, a .endsLeft, n, z) }
@@ -41,14 +42,14 @@ module _ {v : View} {l : Storage} {nm : Option Name} (object : Bool) {e : Entere
   rows : first (enterRows v l nm true true 0 0) ≡ numberOf v l (openIn nm object)
   rows = open-number v l nm object
 
-  pub opens-refused : (e .number ≡ 0 → ⊥) → Opens v l nm object (record { counts = e .counts; container = v .inner; number = e .number }) (stored (l .value) text ends (l .entries))
+  pub opens-refused : (e .number ≡ 0 → ⊥) → Opens v l nm object (record { counts = e .counts; container = v .inner; number = e .number }) (storageOf (l .value) text ends (l .entries))
   opens-refused z =
       let n = a .number ∙ rows in
       let z' = ne-eqb (numberOf v l (openIn nm object)) 0 (λ p. z (n ∙ p)) in
       record { number = n; counts = rw (a .counts, rows, z'); container = rw z'; storage = rw (a .textLeft, a .endsLeft, rows, z') }
 
   pub opens : {entries : List ℕ} {p : ParentEntry} {k : Container} → e .number ≡ 0 → (p ≡ parentPut e (l .entries)) × (entries ≡ entriesPut e (l .entries)) → k ≡ childOf (v .counts) e p object
-      → Opens v l nm object (record { counts = e .counts; container = k; number = 0 }) (stored (l .value) text ends entries)
+      → Opens v l nm object (record { counts = e .counts; container = k; number = 0 }) (storageOf (l .value) text ends entries)
   unfolding newContainer opened
   opens z g c =
       let n = sym (a .number) ∙ z in

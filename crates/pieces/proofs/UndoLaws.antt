@@ -6,17 +6,18 @@ use Prim.Native.Nat.{ℕ, suc, _-_, _≤_}
 use native.Mathlib.Omega.{arith}
 use lib.Dec.{ltb}
 use borrow.Author.Tests.{ltb-true, ne-eqb, not-false}
+use Rattle.encoding.specs.Rows.{first}
 use Rattle.metadata.specs.declared.MetadataBuilder.{MetadataBuilder}
 use Rattle.metadata.specs.Calls.{truncated}
 use Rattle.run.specs.declared.ParentEntry.{ParentEntry}
 use Rattle.run.specs.declared.ParentEntry.the-variants.{New, Replaced}
 use Rattle.run.specs.declared.View.{View}
-use Rattle.run.specs.Record.{Storage, Call, rollBack, isOpen}
+use Rattle.run.specs.Record.{Storage, Call, rollBack, isOpen, storageOf}
 use Rattle.run.specs.Damage.{damaged, misread}
-use Rattle.run.specs.Table.{first, numberOf}
+use Rattle.run.specs.Table.{numberOf}
 use Rattle.run.specs.Step.{countBack, entriesBack, rolledBack, withCounts}
 use Rattle.table.specs.declared.Undone.{Undone}
-use Rattle.table.specs.Decide.{Undoes, placeBack, stored}
+use Rattle.table.specs.Decide.{Undoes, placeBack}
 use Rattle.table.proofs.ViewLaws.{past}
 use Rattle.pieces.specs.Pieces.{Leaves, entriesUndone}
 
@@ -38,14 +39,14 @@ pub leaves-undone : {v : View} {l : Storage} {d : Undone} {count : ℕ} {cut : M
     → count ≡ cond (ltb 1 (v .counts .depth)) (countBack (v .inner .entries) (v .inner .parent)) (v .inner .entries)
     → es ≡ cond (ltb 1 (v .counts .depth)) (entriesUndone (l .entries) (d .place) (v .inner .parent)) (l .entries)
     → cut ≡ truncated (v .counts .dictionary) (v .inner .names) (v .inner .text)
-    → Leaves v l rollBack (record { counts = withCounts (v .counts) (v .inner .value) count (v .counts .depth - 1) cut; number = 0 }) (stored (l .value) (l .text) (l .ends) es)
+    → Leaves v l rollBack (record { counts = withCounts (v .counts) (v .inner .value) count (v .counts .depth - 1) cut; number = 0 }) (storageOf (l .value) (l .text) (l .ends) es)
 unfolding rolledBack
 leaves-undone {v} {l} {d} {count} {cut} {es} u z p q t =
     let e : numberOf v l rollBack ≡ 0 = sym (u .number) ∙ z in
     record { number = sym e; counts = rw (e, p, t); storage = rw (e, q) (go (ltb 1 (v .counts .depth)) (rw e at (u .place))) }
   where
     go : (b : Bool) → d .place ≡ cond (true && b) (placeBack v l (v .inner .parent)) 0
-        → stored (l .value) (l .text) (l .ends) (cond b (entriesUndone (l .entries) (d .place) (v .inner .parent)) (l .entries))
-        ≡ stored (l .value) (l .text) (l .ends) (cond b (entriesBack v l (v .inner .parent)) (l .entries))
+        → storageOf (l .value) (l .text) (l .ends) (cond b (entriesUndone (l .entries) (d .place) (v .inner .parent)) (l .entries))
+        ≡ storageOf (l .value) (l .text) (l .ends) (cond b (entriesBack v l (v .inner .parent)) (l .entries))
     go true h = rw (h, undone-back v l (v .inner .parent))
     go false h = refl

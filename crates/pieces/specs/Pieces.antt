@@ -21,7 +21,7 @@ use Rattle.run.specs.declared.ParentEntry.{ParentEntry}
 use Rattle.run.specs.declared.ParentEntry.the-variants.{New, Replaced}
 use Rattle.run.specs.declared.View.{View}
 use Rattle.run.specs.Record.{Storage, Call, openIn, finish, isOpen, innerSize, uniqueNow}
-use Rattle.run.specs.Table.{appendRows, first, header, numberOf}
+use Rattle.run.specs.Table.{header, numberOf}
 use Rattle.run.specs.Step.{carriedOut, countWith, dictionaryOf, dictionaryWith, endsWith, entriesClosed, entriesWith, finished, newContainer, parentWith, textWith, withCounts}
 use Rattle.pieces.specs.declared.Moved.{Moved}
 use Rattle.pieces.specs.declared.Opened.{Opened}

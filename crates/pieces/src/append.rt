@@ -14,8 +14,8 @@ use value::variant::VariantBytes;
 use value::variant::ill_formed;
 use value::variant::out_of_range;
 ghost use mathlib.Core.Path.{_≡_};
-ghost use Rattle.run.specs.Record.{append as appendOf, bytes as bytesOf, fixed, uuid as uuidOf};
-ghost use Rattle.table.specs.Decide.{nameOf, stored};
+ghost use Rattle.run.specs.Record.{append as appendOf, bytes as bytesOf, fixed, uuid as uuidOf, storageOf};
+ghost use Rattle.table.specs.Decide.{nameOf};
 ghost use Rattle.pieces.specs.Pieces.{Leaves};
 
 pub fn append_value_over(
@@ -28,7 +28,7 @@ pub fn append_value_over(
     name: &[u8],
     x: Variant,
 ) -> Moved
-    ensures { λ r. ⌜ Leaves v (stored (now (value .entry)) (now (text .entry)) (now (ends .entry)) (now (entries .entry))) (appendOf (nameOf named (now (name .entry))) (fixed x)) r (stored (now (value .exit)) (now (text .exit)) (now (ends .exit)) (now (entries .exit))) ⌝ }
+    ensures { λ r. ⌜ Leaves v (storageOf (now (value .entry)) (now (text .entry)) (now (ends .entry)) (now (entries .entry))) (appendOf (nameOf named (now (name .entry))) (fixed x)) r (storageOf (now (value .exit)) (now (text .exit)) (now (ends .exit)) (now (entries .exit))) ⌝ }
 {
     let size = variant_size(x);
     let n = row(out_of_range(x), 7, 0);
@@ -69,7 +69,7 @@ pub fn append_bytes_over(
     kind: VariantBytes,
     bytes: &[u8],
 ) -> Moved
-    ensures { λ r. ⌜ Leaves v (stored (now (value .entry)) (now (text .entry)) (now (ends .entry)) (now (entries .entry))) (appendOf (nameOf named (now (name .entry))) (bytesOf kind (now (bytes .entry)))) r (stored (now (value .exit)) (now (text .exit)) (now (ends .exit)) (now (entries .exit))) ⌝ }
+    ensures { λ r. ⌜ Leaves v (storageOf (now (value .entry)) (now (text .entry)) (now (ends .entry)) (now (entries .entry))) (appendOf (nameOf named (now (name .entry))) (bytesOf kind (now (bytes .entry)))) r (storageOf (now (value .exit)) (now (text .exit)) (now (ends .exit)) (now (entries .exit))) ⌝ }
 {
     let size = bytes_size(kind, bytes);
     let n = row(ill_formed(kind, bytes), 8, 0);
@@ -109,7 +109,7 @@ pub fn append_uuid_over(
     name: &[u8],
     uuid: [u8; 16],
 ) -> Moved
-    ensures { λ r. ⌜ Leaves v (stored (now (value .entry)) (now (text .entry)) (now (ends .entry)) (now (entries .entry))) (appendOf (nameOf named (now (name .entry))) (uuidOf uuid)) r (stored (now (value .exit)) (now (text .exit)) (now (ends .exit)) (now (entries .exit))) ⌝ }
+    ensures { λ r. ⌜ Leaves v (storageOf (now (value .entry)) (now (text .entry)) (now (ends .entry)) (now (entries .entry))) (appendOf (nameOf named (now (name .entry))) (uuidOf uuid)) r (storageOf (now (value .exit)) (now (text .exit)) (now (ends .exit)) (now (entries .exit))) ⌝ }
 {
     let e = enter_over(
         v,

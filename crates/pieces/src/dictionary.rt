@@ -5,7 +5,7 @@ use run::Counts;
 use run::View;
 use table::finish_number;
 ghost use mathlib.Core.Path.{_≡_};
-ghost use Rattle.table.specs.Decide.{stored};
+ghost use Rattle.run.specs.Record.{storageOf};
 ghost use Rattle.pieces.specs.Pieces.{Ends};
 
 pub fn finish_over(
@@ -16,7 +16,7 @@ pub fn finish_over(
     entries: &[usize],
     out: &mut [u8],
 ) -> Ended
-    ensures { λ r. ⌜ Ends v (stored (now (value .entry)) (now (text .entry)) (now (ends .entry)) (now (entries .entry))) (now (out .entry)) r (now (out .exit)) ⌝ }
+    ensures { λ r. ⌜ Ends v (storageOf (now (value .entry)) (now (text .entry)) (now (ends .entry)) (now (entries .entry))) (now (out .entry)) r (now (out .exit)) ⌝ }
 {
     let n = finish_number(v, value, text, ends, entries);
     let c = v.counts;

@@ -12,9 +12,10 @@ use table::unique_now;
 ghost use mathlib.Core.Path.{_≡_};
 ghost use mathlib.Core.Bool.{cond, true};
 ghost use Prim.Native.Nat.{_+_, _^_, _<_};
+ghost use Rattle.encoding.specs.Rows.{first};
 ghost use Rattle.run.specs.Step.{withCounts};
-ghost use Rattle.run.specs.Table.{first};
-ghost use Rattle.table.specs.Decide.{enterRows, nameOf, stored};
+ghost use Rattle.run.specs.Record.{storageOf};
+ghost use Rattle.table.specs.Decide.{enterRows, nameOf};
 ghost use Rattle.pieces.specs.Pieces.{EntersBy, Registers, entriesPut, oneMore, parentPut};
 
 // What a register, an append or an open leaves, up to the entry and the value's bytes: the number; the counts; the entry to be put, in the
@@ -43,7 +44,7 @@ pub fn enter_over(
     own: u8,
     size: usize,
 ) -> Entered
-    ensures { λ r. ⌜ EntersBy v (stored (now (value .entry)) (now (text .entry)) (now (ends .entry)) (now (entries .entry))) (nameOf named (now (name .entry))) opens size (first (enterRows v (stored (now (value .entry)) (now (text .entry)) (now (ends .entry)) (now (entries .entry))) (nameOf named (now (name .entry))) into opens own size)) r (now (text .exit)) (now (ends .exit)) ⌝ }
+    ensures { λ r. ⌜ EntersBy v (storageOf (now (value .entry)) (now (text .entry)) (now (ends .entry)) (now (entries .entry))) (nameOf named (now (name .entry))) opens size (first (enterRows v (storageOf (now (value .entry)) (now (text .entry)) (now (ends .entry)) (now (entries .entry))) (nameOf named (now (name .entry))) into opens own size)) r (now (text .exit)) (now (ends .exit)) ⌝ }
 {
     let d = enter_number(
         v,

@@ -11,8 +11,7 @@ ghost use mathlib.Core.Path.{_≡_};
 ghost use Prim.Native.Nat.{_-_};
 ghost use Rattle.container.specs.Layout.{largest};
 ghost use Rattle.container.specs.Entries.{entriesOf, idsOf};
-ghost use Rattle.run.specs.Record.{close as closeOf};
-ghost use Rattle.table.specs.Decide.{stored};
+ghost use Rattle.run.specs.Record.{close as closeOf, storageOf};
 ghost use Rattle.pieces.specs.Pieces.{Fronts, Leaves};
 
 pub fn close_over(
@@ -22,7 +21,7 @@ pub fn close_over(
     ends: &[usize],
     entries: &mut [usize],
 ) -> Moved
-    ensures { λ r. ⌜ Leaves v (stored (now (value .entry)) (now (text .entry)) (now (ends .entry)) (now (entries .entry))) closeOf r (stored (now (value .exit)) (now (text .entry)) (now (ends .entry)) (now (entries .exit))) ⌝ }
+    ensures { λ r. ⌜ Leaves v (storageOf (now (value .entry)) (now (text .entry)) (now (ends .entry)) (now (entries .entry))) closeOf r (storageOf (now (value .exit)) (now (text .entry)) (now (ends .entry)) (now (entries .exit))) ⌝ }
 {
     let d = close_number(v, value, text, ends, entries);
     let n = d.number;
@@ -70,7 +69,7 @@ fn put_header(
     entries: &mut [usize],
 ) -> Closed
     requires { ⌜ most ≡ largest (idsOf (entriesOf (now entries) (v .inner .entries) (v .counts .entries - v .inner .entries))) ⌝ }
-    ensures { λ r. ⌜ Fronts v (stored (now (value .entry)) (now (text .entry)) (now (ends .entry)) (now (entries .entry))) r (now (value .exit)) (now (entries .exit)) ⌝ }
+    ensures { λ r. ⌜ Fronts v (storageOf (now (value .entry)) (now (text .entry)) (now (ends .entry)) (now (entries .entry))) r (now (value .exit)) (now (entries .exit)) ⌝ }
 {
     let f = Frame {
         start: v.inner.value,

@@ -9,9 +9,9 @@ use run::Counts;
 use run::ParentEntry;
 use run::View;
 ghost use mathlib.Core.Path.{_≡_};
-ghost use Rattle.run.specs.Record.{openIn};
+ghost use Rattle.run.specs.Record.{openIn, storageOf};
 ghost use Rattle.run.specs.Record.{register as registerOf};
-ghost use Rattle.table.specs.Decide.{nameOf, stored};
+ghost use Rattle.table.specs.Decide.{nameOf};
 ghost use Rattle.pieces.specs.Pieces.{Leaves, Opens, childOf};
 
 pub fn register(
@@ -22,7 +22,7 @@ pub fn register(
     entries: &[usize],
     name: &[u8],
 ) -> Moved
-    ensures { λ r. ⌜ Leaves v (stored (now (value .entry)) (now (text .entry)) (now (ends .entry)) (now (entries .entry))) (registerOf (now (name .entry))) r (stored (now (value .entry)) (now (text .exit)) (now (ends .exit)) (now (entries .entry))) ⌝ }
+    ensures { λ r. ⌜ Leaves v (storageOf (now (value .entry)) (now (text .entry)) (now (ends .entry)) (now (entries .entry))) (registerOf (now (name .entry))) r (storageOf (now (value .entry)) (now (text .exit)) (now (ends .exit)) (now (entries .entry))) ⌝ }
 {
     let e = enter_over(
         v,
@@ -54,7 +54,7 @@ pub fn open_over(
     name: &[u8],
     object: bool,
 ) -> Opened
-    ensures { λ r. ⌜ Opens v (stored (now (value .entry)) (now (text .entry)) (now (ends .entry)) (now (entries .entry))) (nameOf named (now (name .entry))) object r (stored (now (value .entry)) (now (text .exit)) (now (ends .exit)) (now (entries .exit))) ⌝ }
+    ensures { λ r. ⌜ Opens v (storageOf (now (value .entry)) (now (text .entry)) (now (ends .entry)) (now (entries .entry))) (nameOf named (now (name .entry))) object r (storageOf (now (value .entry)) (now (text .exit)) (now (ends .exit)) (now (entries .exit))) ⌝ }
 {
     let e = enter_over(v, value, text, ends, entries, named, name, true, true, 0, 0);
     let c = e.counts;

@@ -10,9 +10,8 @@ use table::rollback_number;
 ghost use mathlib.Core.Path.{_≡_};
 ghost use mathlib.Core.Bool.{cond};
 ghost use lib.Dec.{ltb};
-ghost use Rattle.run.specs.Record.{rollBack};
+ghost use Rattle.run.specs.Record.{rollBack, storageOf};
 ghost use Rattle.run.specs.Step.{countBack};
-ghost use Rattle.table.specs.Decide.{stored};
 ghost use Rattle.pieces.specs.Pieces.{Leaves, entriesUndone};
 
 pub fn rollback_over(
@@ -22,7 +21,7 @@ pub fn rollback_over(
     ends: &[usize],
     entries: &mut [usize],
 ) -> Moved
-    ensures { λ r. ⌜ Leaves v (stored (now (value .entry)) (now (text .entry)) (now (ends .entry)) (now (entries .entry))) rollBack r (stored (now (value .entry)) (now (text .entry)) (now (ends .entry)) (now (entries .exit))) ⌝ }
+    ensures { λ r. ⌜ Leaves v (storageOf (now (value .entry)) (now (text .entry)) (now (ends .entry)) (now (entries .entry))) rollBack r (storageOf (now (value .entry)) (now (text .entry)) (now (ends .entry)) (now (entries .exit))) ⌝ }
 {
     let d = rollback_number(v, value, text, ends, entries);
     let c = v.counts;

@@ -6,6 +6,7 @@ use mathlib.Core.List.{List}
 use lib.Dec.{eqb, ltb}
 use lib.ListN.{length, take}
 use borrow.Author.Tests.{eqb-true, eq-eqb, ne-eqb}
+use Rattle.encoding.specs.Rows.{first}
 use Rattle.encoding.specs.Utf8.{utf8}
 use Rattle.metadata.specs.Names.{Name, intact, namesOf, place}
 use Rattle.metadata.specs.Calls.{Told, hasRoom, lookup, refused}
@@ -15,7 +16,7 @@ use Rattle.run.specs.declared.ParentEntry.the-variants.{New, Replaced}
 use Rattle.run.specs.declared.View.{View}
 use Rattle.run.specs.Record.{Storage, close, rollBack, uniqueness, isOpen, inObject, innerSize, parentSize}
 use Rattle.run.specs.Damage.{unchained, fallenEnds, misplacedInner, misplacedParent, damagedParent}
-use Rattle.run.specs.Table.{first, rows, numberOf, held}
+use Rattle.run.specs.Table.{rows, numberOf, held}
 use Rattle.table.specs.declared.numbers.Parent.{Parent}
 use Rattle.table.specs.declared.lookup.Known.{Known}
 use Rattle.table.specs.Decide.{ClosesBy, ParentOf, Undoes, brokenOf, finishBy}

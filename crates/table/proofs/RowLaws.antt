@@ -1,20 +1,21 @@
 -- The rows of a register, an append and an open, from what is known of a name; and what they are for each of these calls.
 use mathlib.Core.Path.{_≡_, refl, sym, _∙_, ap}
 use mathlib.Core.Bool.{Bool, true, false, cond, not, _&&_, _||_, true≢false, and-false, or-false}
-use mathlib.Core.List.{List, _∷_}
+use mathlib.Core.List.{List, [], _∷_, _++_}
 use mathlib.Core.Option.{Option, none, some}
 use Prim.Native.Nat.{ℕ, zero, suc, _+_}
 use native.Mathlib.Omega.{arith}
 use lib.Dec.{eqb, leb, ltb}
 use lib.ListN.{length}
 use borrow.Author.Tests.{eqb-true, ne-eqb, ltb-false, le-leb, not-false}
+use Rattle.encoding.specs.Rows.{Row, row, first, testOf, order, behind, inOrder}
+use Rattle.encoding.proofs.RowsLaws.{first-none, first-own, clear-at}
 use Rattle.encoding.specs.Slices.{counted, fits}
 use Rattle.metadata.specs.Names.{Name}
 use Rattle.run.specs.declared.View.{View}
 use Rattle.run.specs.Record.{Storage, openIn, register, isOpen, uniqueNow}
 use Rattle.run.specs.Damage.{damaged, fallenEnds, misreadBy, overUsed}
-use Rattle.run.specs.Table.{Row, row, first, Clear, appendRows, numberOf, liveUnder, badName, live, misnamed, namesFull, secondTop, taken, tooLong}
-use Rattle.run.proofs.Demand1.{first-clear}
+use Rattle.run.specs.Table.{frontRows, backRows, appendRows, numberOf, liveUnder, badName, live, misnamed, namesFull, secondTop, taken, tooLong}
 use Rattle.table.specs.declared.Field.{Field}
 use Rattle.table.specs.declared.Decided.{Decided}
 use Rattle.table.specs.declared.lookup.Named.{Named}
@@ -104,15 +105,17 @@ rows-zero number own finished inside wrong second taken deep full fit e =
     let k = past deep 10 _ (j .1) in
     (a .0, (i .0, past (eqb number 12) 11 _ (k .1) .0))
 
--- the rows of its name, its entry and its room are clear
-pub enter-late : (v : View) (l : Storage) (nm : Option Name) (into opens : Bool) (own size : ℕ) → first (enterRows v l nm into opens own size) ≡ 0 → Clear (lateRows v l nm opens size)
+-- the rows of its name, its entry and its room are clear: row i's test does not hold
+pub enter-late : (v : View) (l : Storage) (nm : Option Name) (into opens : Bool) (own size : ℕ) → first (enterRows v l nm into opens own size) ≡ 0
+    → (i : ℕ) → testOf i (lateRows v l nm opens size) ≡ false
 unfolding first
-enter-late v l nm into opens own size e =
+enter-late v l nm into opens own size e i =
     let a = past (damaged v l (misreadInto into v l nm)) 0 _ e in
     let b = past (v .counts .finished) 1 _ (a .1) in
     let c = past (not into && isOpen v) 3 _ (b .1) in
     let d = past (into && misnamed nm v) 4 _ (c .1) in
-    first-clear 8 (lateRows v l nm opens size) refl (past-own own _ (past (into && secondTop v) 5 _ (d .1) .1))
+    let k = first-none (behind 8 order) (lateRows v l nm opens size) refl .0 (past-own own _ (past (into && secondTop v) 5 _ (d .1) .1)) in
+    clear-at i (lateRows v l nm opens size) k
 
 -- the answer: the field where the number is 0
 pub decides : {into : Bool} {n m : ℕ} {v : View} {l : Storage} {nm : Option Name} {f : Named} {r : Decided} → Sees into v l nm f → (n ≡ 0 → f .number ≡ 0) → m ≡ n → r ≡ decidedOf n (f .field) → Decides m v l nm r
@@ -152,15 +155,24 @@ none-long v l e =
     let u = ltb-false (counted (length (l .value))) (v .counts .value) (neither (ltb (counted (length (l .value))) (v .counts .value)) _ e .0) in
     ap not (le-leb (v .counts .value + 0) (counted (length (l .value))) (omega arith))
 
--- an append's: its own number is 7 or 8
-abbrev pub ownScalar : Bool → Bool → ℕ
-ownScalar beyond bad = cond beyond 7 (cond bad 8 0)
-
-pub append-number : (v : View) (l : Storage) (nm : Option Name) (beyond bad : Bool) (size : ℕ) → first (enterRows v l nm true false (ownScalar beyond bad) size) ≡ first (appendRows v l nm beyond bad size)
+-- an append's: the number that the scalar's own rows give stands for them
+one-own : (v : View) (l : Storage) (nm : Option Name) (own size : ℕ)
+    → first (enterRows v l nm true false own size) ≡ first (frontRows v l nm ++ (row own (not (eqb own 0)) ∷ backRows v l nm size))
 unfolding first
-append-number v l nm true bad size = rw (misread-into v l nm)
-append-number v l nm false true size = rw (misread-into v l nm)
-append-number v l nm false false size = rw (misread-into v l nm)
+one-own v l nm own size = rw (misread-into v l nm)
+
+pub append-number : (v : View) (l : Storage) (nm : Option Name) (own : List Row) (size : ℕ) → inOrder order own ≡ true
+    → first (enterRows v l nm true false (first own) size) ≡ first (appendRows v l nm own size)
+append-number v l nm own size o = one-own v l nm (first own) size ∙ sym (first-own order (frontRows v l nm) own (backRows v l nm size) o)
+
+-- of no row, and of one from its test
+pub own-none : 0 ≡ first []
+unfolding first
+own-none = refl
+
+pub own-row : (k : ℕ) {n : ℕ} {t u : Bool} → n ≡ cond t k 0 → t ≡ u → n ≡ first (row k u ∷ [])
+unfolding first
+own-row k e p = e ∙ ap (λ t. cond t k 0) p
 
 -- an open's
 pub open-number : (v : View) (l : Storage) (nm : Option Name) (object : Bool) → first (enterRows v l nm true true 0 0) ≡ numberOf v l (openIn nm object)

@@ -8,6 +8,7 @@ use native.Mathlib.Omega.{arith}
 use lib.Dec.{eqb, leb, ltb}
 use lib.ListN.{drop, length, take}
 use borrow.Author.Tests.{ltb-true, ltb-false, lt-ltb, le-ltb, leb-true, eq-eqb, ne-eqb, not-false}
+use Rattle.encoding.specs.Rows.{first}
 use Rattle.encoding.specs.Slices.{counted}
 use Rattle.metadata.specs.Names.{exceeds, intact}
 use Rattle.container.specs.Entries.{entriesOf, rangeOf, roomFor, seek}
@@ -15,7 +16,7 @@ use Rattle.container.proofs.EntryLaws.{length-entries, seek-bound}
 use Rattle.run.specs.declared.View.{View}
 use Rattle.run.specs.Record.{Storage, Call, register, append, openIn, close, rollBack, uniqueness, finish}
 use Rattle.run.specs.Damage.{overUsed, grown, unchained, fallenEnds, damaged}
-use Rattle.run.specs.Table.{first, rows, numberOf}
+use Rattle.run.specs.Table.{rows, numberOf}
 use Rattle.table.specs.Decide.{brokenOf, finishBy}
 
 -- neither test of an `||` that does not hold does

@@ -6,6 +6,7 @@ use mathlib.Core.Option.{Option, none, some}
 use Prim.Native.Nat.{ℕ, _+_}
 use lib.Dec.{eqb, leb, ltb}
 use lib.ListN.{drop, take}
+use Rattle.encoding.specs.Rows.{Row, row, first}
 use Rattle.metadata.specs.Names.{Name}
 use Rattle.metadata.specs.Calls.{Told}
 use Rattle.container.specs.Layout.{largest}
@@ -15,7 +16,7 @@ use Rattle.run.specs.declared.ParentEntry.the-variants.{New, Replaced}
 use Rattle.run.specs.declared.View.{View}
 use Rattle.run.specs.Record.{Storage, close, finish, isOpen, inObject, innerEntries, parentSize, parentEntries, uniqueNow}
 use Rattle.run.specs.Damage.{damaged, fallenEnds, misplacedInner, overUsed, unchained, misplacedParent, orphaned}
-use Rattle.run.specs.Table.{Row, row, first, rows, held, liveUnder, badName, entriesFull, misnamed, namesFull, secondTop, taken, tooLong}
+use Rattle.run.specs.Table.{rows, held, liveUnder, badName, entriesFull, misnamed, namesFull, secondTop, taken, tooLong}
 use Rattle.run.specs.Step.{idFor, placeFor}
 use Rattle.table.specs.declared.Field.{Field}
 use Rattle.table.specs.declared.Decided.{Decided}
@@ -24,10 +25,6 @@ use Rattle.table.specs.declared.Undone.{Undone}
 use Rattle.table.specs.declared.numbers.Parent.{Parent}
 use Rattle.table.specs.declared.lookup.Known.{Known}
 use Rattle.table.specs.declared.lookup.Named.{Named}
-
--- the four lent slices
-abbrev pub stored : List ℕ → List ℕ → List ℕ → List ℕ → Storage
-stored value text ends entries = record { value = value; text = text; ends = ends; entries = entries }
 
 -- document 01, "with or without a field name"
 unfoldable pub nameOf : Bool → Name → Option Name

@@ -10,7 +10,8 @@ use run::View;
 ghost use mathlib.Core.Path.{_≡_};
 ghost use mathlib.Core.Bool.{cond, false};
 ghost use Rattle.metadata.specs.Calls.{lookup};
-ghost use Rattle.table.specs.Decide.{Sees, brokenOf, nameOf, noField, stored, toldBy};
+ghost use Rattle.run.specs.Record.{storageOf};
+ghost use Rattle.table.specs.Decide.{Sees, brokenOf, nameOf, noField, toldBy};
 
 // A look-up's number, 0 where the name has an id; the id, and whether it is a new one.
 pub(crate) struct Known {
@@ -77,8 +78,8 @@ pub(crate) fn field_of(
     name: &[u8],
     into: bool,
 ) -> Named
-    requires { ⌜ brokenOf v (stored (now value) (now text) (now ends) (now entries)) ≡ false ⌝ }
-    ensures { λ r. ⌜ Sees into v (stored (now (value .entry)) (now (text .entry)) (now (ends .entry)) (now (entries .entry))) (nameOf named (now (name .entry))) r ⌝ }
+    requires { ⌜ brokenOf v (storageOf (now value) (now text) (now ends) (now entries)) ≡ false ⌝ }
+    ensures { λ r. ⌜ Sees into v (storageOf (now (value .entry)) (now (text .entry)) (now (ends .entry)) (now (entries .entry))) (nameOf named (now (name .entry))) r ⌝ }
 {
     if !named {
         return Named {

@@ -24,10 +24,11 @@ ghost use mathlib.Core.Bool.{Bool};
 ghost use mathlib.Core.List.{List};
 ghost use Prim.Native.Nat.{ℕ, _≤_};
 ghost use lib.ListN.{length};
+ghost use Rattle.encoding.specs.Rows.{first};
 ghost use Rattle.container.specs.Entries.{roomFor};
-ghost use Rattle.run.specs.Record.{rollBack, uniqueness};
-ghost use Rattle.run.specs.Table.{first, numberOf};
-ghost use Rattle.table.specs.Decide.{ClosesBy, Decides, ParentOf, enterBy, enterRows, finishBy, fullBy, rowsBy, Undoes, decidedOf, nameOf, stored};
+ghost use Rattle.run.specs.Record.{rollBack, uniqueness, storageOf};
+ghost use Rattle.run.specs.Table.{numberOf};
+ghost use Rattle.table.specs.Decide.{ClosesBy, Decides, ParentOf, enterBy, enterRows, finishBy, fullBy, rowsBy, Undoes, decidedOf, nameOf};
 
 // A register's, an append's and an open's. `into` is false of a register, which enters nothing into a container; `opens` is true of an
 // open; `own` is the scalar's own number, 0 where it has none; `size` is the scalar's bytes.
@@ -44,7 +45,7 @@ pub fn enter_number(
     own: u8,
     size: usize,
 ) -> Decided
-    ensures { λ r. ⌜ Decides (first (enterRows v (stored (now (value .entry)) (now (text .entry)) (now (ends .entry)) (now (entries .entry))) (nameOf named (now (name .entry))) into opens own size)) v (stored (now (value .entry)) (now (text .entry)) (now (ends .entry)) (now (entries .entry))) (nameOf named (now (name .entry))) r ⌝ }
+    ensures { λ r. ⌜ Decides (first (enterRows v (storageOf (now (value .entry)) (now (text .entry)) (now (ends .entry)) (now (entries .entry))) (nameOf named (now (name .entry))) into opens own size)) v (storageOf (now (value .entry)) (now (text .entry)) (now (ends .entry)) (now (entries .entry))) (nameOf named (now (name .entry))) r ⌝ }
 {
     if broken(v, value, text, ends, entries) {
         return decided(1, no_field());
@@ -139,7 +140,7 @@ pub fn close_number(
     ends: &[usize],
     entries: &[usize],
 ) -> Closing
-    ensures { λ r. ⌜ ClosesBy v (stored (now (value .entry)) (now (text .entry)) (now (ends .entry)) (now (entries .entry))) r ⌝ }
+    ensures { λ r. ⌜ ClosesBy v (storageOf (now (value .entry)) (now (text .entry)) (now (ends .entry)) (now (entries .entry))) r ⌝ }
 {
     if broken(v, value, text, ends, entries) {
         return Closing {
@@ -164,7 +165,7 @@ pub fn close_number(
 // Rows 1, 2, 4 and 15 of a finish. The name ends are asked only where 2, 4 or 15 holds: else the dictionary asks them as it is
 // written, for its rows 1 and 16.
 pub fn finish_number(v: View, value: &[u8], text: &[u8], ends: &[usize], entries: &[usize]) -> u8
-    ensures { λ r. ⌜ ((out : List ℕ) → r ≡ finishBy v (stored (now (value .entry)) (now (text .entry)) (now (ends .entry)) (now (entries .entry))) out) ⌝ }
+    ensures { λ r. ⌜ ((out : List ℕ) → r ≡ finishBy v (storageOf (now (value .entry)) (now (text .entry)) (now (ends .entry)) (now (entries .entry))) out) ⌝ }
 {
     if broken(v, value, text, ends, entries) {
         return 1;
@@ -186,7 +187,7 @@ pub fn rollback_number(
     ends: &[usize],
     entries: &[usize],
 ) -> Undone
-    ensures { λ r. ⌜ Undoes (numberOf v (stored (now (value .entry)) (now (text .entry)) (now (ends .entry)) (now (entries .entry))) rollBack) v (stored (now (value .entry)) (now (text .entry)) (now (ends .entry)) (now (entries .entry))) r ⌝ }
+    ensures { λ r. ⌜ Undoes (numberOf v (storageOf (now (value .entry)) (now (text .entry)) (now (ends .entry)) (now (entries .entry))) rollBack) v (storageOf (now (value .entry)) (now (text .entry)) (now (ends .entry)) (now (entries .entry))) r ⌝ }
 {
     if broken(v, value, text, ends, entries) {
         return Undone {
@@ -214,7 +215,7 @@ pub fn rollback_number(
 }
 
 pub fn unique_number(v: View, value: &[u8], text: &[u8], ends: &[usize], entries: &[usize]) -> u8
-    ensures { λ r. ⌜ ((u : Bool) → r ≡ numberOf v (stored (now (value .entry)) (now (text .entry)) (now (ends .entry)) (now (entries .entry))) (uniqueness u)) ⌝ }
+    ensures { λ r. ⌜ ((u : Bool) → r ≡ numberOf v (storageOf (now (value .entry)) (now (text .entry)) (now (ends .entry)) (now (entries .entry))) (uniqueness u)) ⌝ }
 {
     let bad = broken(v, value, text, ends, entries);
     row(bad, 1, row(v.counts.finished, 2, row(!in_object(v), 3, 0)))
@@ -250,7 +251,7 @@ struct Parent {
 
 fn parent_entry(v: View, entries: &[usize]) -> Parent
     requires { ⌜ v .inner .entries ≤ roomFor (length (now entries)) ⌝ }
-    ensures { λ r. ⌜ ((value text ends : List ℕ) → ParentOf v (stored value text ends (now (entries .entry))) r) ⌝ }
+    ensures { λ r. ⌜ ((value text ends : List ℕ) → ParentOf v (storageOf value text ends (now (entries .entry))) r) ⌝ }
 {
     let k = v.inner;
     let p = v.parent;

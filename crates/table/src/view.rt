@@ -5,10 +5,10 @@ use run::View;
 ghost use mathlib.Core.Path.{_≡_};
 ghost use mathlib.Core.Bool.{cond};
 ghost use Prim.Native.Nat.{_-_};
-ghost use Rattle.run.specs.Record.{inObject, isOpen, uniqueNow};
+ghost use Rattle.run.specs.Record.{inObject, isOpen, uniqueNow, storageOf};
 ghost use Rattle.run.specs.Damage.{grown as grownOf};
 ghost use Rattle.run.specs.Table.{secondTop};
-ghost use Rattle.table.specs.Decide.{brokenOf, misnamedBy, stored};
+ghost use Rattle.table.specs.Decide.{brokenOf, misnamedBy};
 
 // a - b, or 0 where b is more.
 pub fn less(a: usize, b: usize) -> usize
@@ -32,7 +32,7 @@ pub fn row(test: bool, number: u8, rest: u8) -> u8
 
 // What every call asks of number 1.
 pub(crate) fn broken(v: View, value: &[u8], text: &[u8], ends: &[usize], entries: &[usize]) -> bool
-    ensures { λ r. ⌜ r ≡ brokenOf v (stored (now (value .entry)) (now (text .entry)) (now (ends .entry)) (now (entries .entry))) ⌝ }
+    ensures { λ r. ⌜ r ≡ brokenOf v (storageOf (now (value .entry)) (now (text .entry)) (now (ends .entry)) (now (entries .entry))) ⌝ }
 {
     let c = v.counts;
     let m = c.dictionary;

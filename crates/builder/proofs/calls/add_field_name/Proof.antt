@@ -1,8 +1,7 @@
 use borrow.Author.Needs.{needs}
 use mathlib.Core.Path.{refl}
-use Rattle.table.specs.Decide.{stored}
 use Rattle.builder.proofs.CallLaws.{does-moved}
-use Rattle.run.specs.Record.{register}
+use Rattle.run.specs.Record.{register, storageOf}
 use Rattle.builder.proofs.calls.add_field_name.Statement.{statement}
 use Rattle.builder.proofs.calls.add_field_name.Tie as tie
 
@@ -11,7 +10,7 @@ returns c =
     let r = c .before .before .before .before .before in
     let v = r .before .before .before in
     let a = v .before .before .before .before .before .before .args in
-    does-moved (a .b) (stored (a .value .now) (a .text .now) (a .ends .now) (a .entries .now)) (register (a .name .now)) refl (v .view-of .ensures) (r .register .ensures) (c .called .ensures)
+    does-moved (a .b) (storageOf (a .value .now) (a .text .now) (a .ends .now) (a .entries .now)) (register (a .name .now)) refl (v .view-of .ensures) (r .register .ensures) (c .called .ensures)
 
 pub add-field-name-spec : {M : Type 1} → statement M
 add-field-name-spec =

@@ -1,5 +1,5 @@
 use borrow.Author.Needs.{needs}
-use Rattle.table.specs.Decide.{stored}
+use Rattle.run.specs.Record.{storageOf}
 use Rattle.builder.proofs.CallLaws.{does-finished}
 use Rattle.builder.proofs.calls.finish.Statement.{statement}
 use Rattle.builder.proofs.calls.finish.Tie as tie
@@ -9,7 +9,7 @@ returns c =
     let r = c .before .before .before .before .before in
     let v = r .before .before in
     let a = v .before .before .before .before .before .before .args in
-    does-finished (a .b) (stored (a .value .now) (a .text .now) (a .ends .now) (a .entries .now)) (a .out .now) (v .view-of .ensures) (r .finish-over .ensures) (rw (c .finish-answer .ensures))
+    does-finished (a .b) (storageOf (a .value .now) (a .text .now) (a .ends .now) (a .entries .now)) (a .out .now) (v .view-of .ensures) (r .finish-over .ensures) (rw (c .finish-answer .ensures))
 
 pub finish-spec : {M : Type 1} → statement M
 finish-spec =

@@ -20,9 +20,9 @@ use denote.Struct.Laws as LL
 use denote.Triple.Spec.{Meets, tripleOf}
 use denote.Triple.Statement.{Triple}
 use denote.Triple.Table.{entered, cited}
-use Rattle.run.specs.Record.{append as appendOf, uuid as uuidOf}
+use Rattle.run.specs.Record.{append as appendOf, uuid as uuidOf, storageOf}
 use Rattle.run.specs.Step.{step}
-use Rattle.table.specs.Decide.{nameOf, stored}
+use Rattle.table.specs.Decide.{nameOf}
 use Rattle.builder.specs.Calls.{Does, state}
 use Rattle.calls.specs.Calls.{DoesThin}
 use Rattle.run.proofs.Builder as B
@@ -60,12 +60,12 @@ module _ {M : Type 1} (𝓤 : URA M) (H : Heap 𝓤) (A : Atoms 𝓤) (W : Given
       let named = a .1 .1 .1 .1 .0 in
       let name = a .1 .1 .1 .1 .1 .0 .now in
       let uuid = a .1 .1 .1 .1 .1 .1 .0 in
-      let s = state b (stored value text ends entries) in
+      let s = state b (storageOf value text ends entries) in
       let k = appendOf (nameOf named name) (uuidOf uuid) in
       let vss = vssOf (Rs κs) (ways κs) a in
       spelled 𝓤 H A self.signature (self.spec 𝓤 H A mem run) (WpFn 𝓤 H (𝓣 .C) (𝓣 .Λ) code.function) y (LL.vals B.the-type B′.the-laws, spellsOf (Rs κs) (ways κs)) (LL.tells B.the-type B′.the-laws, tellsOf (Rs κs) (ways κs))
       (λ are. lent-meets called 𝓤 H A W 𝓣 #callee b (emp 𝓤) 5 (others (self.signature .params)) (self.ended .kept .1) κs qs (ways κs) a (are .1)
-      (λ r ws. Does r (stored (ws .0) (ws .1 .0) (ws .1 .1 .0) (ws .1 .1 .1 .0)) (step s k)) (λ c w ws. DoesThin c w (stored (ws .0) (ws .1 .0) (ws .1 .1 .0) (ws .1 .1 .1 .0)) s k) (λ c w ws. thin-does c w (stored (ws .0) (ws .1 .0) (ws .1 .1 .0) (ws .1 .1 .1 .0)) s k)
+      (λ r ws. Does r (storageOf (ws .0) (ws .1 .0) (ws .1 .1 .0) (ws .1 .1 .1 .0)) (step s k)) (λ c w ws. DoesThin c w (storageOf (ws .0) (ws .1 .0) (ws .1 .1 .0) (ws .1 .1 .1 .0)) s k) (λ c w ws. thin-does c w (storageOf (ws .0) (ws .1 .0) (ws .1 .1 .0) (ws .1 .1 .1 .0)) s k)
       (λ α l γ. known (((α ∷ [], κs), (fullShare, qs), tt, (record { ptr = (l, 0); name = γ; now = b }, a), (vptr l 0 ∷ [], vss)), tt)))
 
 pub append-uuid-lent-spec : {M : Type 1} → stated.statement M

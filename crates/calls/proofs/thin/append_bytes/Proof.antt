@@ -18,9 +18,9 @@ use denote.Ref.{ptr-vals, mut-tells}
 use denote.Triple.Spec.{Meets, tripleOf}
 use denote.Triple.Statement.{Triple}
 use denote.Triple.Table.{entered, cited}
-use Rattle.run.specs.Record.{append as appendOf, bytes as bytesOf}
+use Rattle.run.specs.Record.{append as appendOf, bytes as bytesOf, storageOf}
 use Rattle.run.specs.Step.{step}
-use Rattle.table.specs.Decide.{nameOf, stored}
+use Rattle.table.specs.Decide.{nameOf}
 use Rattle.builder.specs.Calls.{Does, state}
 use Rattle.calls.specs.Calls.{DoesThin}
 use Rattle.run.proofs.Builder as B
@@ -59,12 +59,12 @@ module _ {M : Type 1} (𝓤 : URA M) (H : Heap 𝓤) (A : Atoms 𝓤) (W : Given
       let name = a .1 .1 .1 .1 .1 .0 .now in
       let kind = a .1 .1 .1 .1 .1 .1 .0 in
       let bytes = a .1 .1 .1 .1 .1 .1 .1 .0 .now in
-      let s = state (b .now) (stored value text ends entries) in
+      let s = state (b .now) (storageOf value text ends entries) in
       let k = appendOf (nameOf named name) (bytesOf kind bytes) in
       let vss = vssOf (Rs κs) (ways κs) a in
       spelled 𝓤 H A self.signature (self.spec 𝓤 H A mem run) (WpFn 𝓤 H (𝓣 .C) (𝓣 .Λ) code.function) y (ptr-vals, spellsOf (Rs κs) (ways κs)) (mut-tells (lft 0) (κs .0) B.the-row, tellsOf (Rs κs) (ways κs))
       (λ are. thin-meets called 𝓤 H A W 𝓣 #callee (κs .0) (qs .0) b (Rs κs) (ways κs) a (are .1) (emp 𝓤) 6 (others (callee.signature .params)) (callee.ended .kept .1) (κs .1) (qs .1) a vss
-      (λ r ws. Does r (stored (ws .0) (ws .1 .0) (ws .1 .1 .0) (ws .1 .1 .1 .0)) (step s k)) (λ c w ws. DoesThin c w (stored (ws .0) (ws .1 .0) (ws .1 .1 .0) (ws .1 .1 .1 .0)) s k) (λ r ws. does-thin r (stored (ws .0) (ws .1 .0) (ws .1 .1 .0) (ws .1 .1 .1 .0)) s k)
+      (λ r ws. Does r (storageOf (ws .0) (ws .1 .0) (ws .1 .1 .0) (ws .1 .1 .1 .0)) (step s k)) (λ c w ws. DoesThin c w (storageOf (ws .0) (ws .1 .0) (ws .1 .1 .0) (ws .1 .1 .1 .0)) s k) (λ r ws. does-thin r (storageOf (ws .0) (ws .1 .0) (ws .1 .1 .0) (ws .1 .1 .1 .0)) s k)
       (known ((κs .1, qs .1, tt, (b .now, a), (bv (b .now) ∷ [], vss)), tt)))
 
 pub append-bytes-spec : {M : Type 1} → stated.statement M

@@ -1,5 +1,6 @@
 use borrow.Author.Needs.{needs}
-use Rattle.table.specs.Decide.{nameOf, stored}
+use Rattle.run.specs.Record.{storageOf}
+use Rattle.table.specs.Decide.{nameOf}
 use Rattle.ffi.proofs.CallLaws.{enters-done, enters-refused}
 use Rattle.ffi.proofs.calls.enter.Statement.{statement}
 use Rattle.ffi.proofs.calls.enter.Tie as tie
@@ -10,7 +11,7 @@ returns c =
     let h = e .before .before .before in
     let n = h .before .before .before .before .before .before in
     let a = n .before .before .before .before .before .before .before .args in
-    enters-refused (a .words .now) (stored (a .value .now) (a .text .now) (a .ends .now) (a .entries .now)) (nameOf (a .named) (a .name .now)) (a .into) (a .opens) (a .own) (a .size)
+    enters-refused (a .words .now) (storageOf (a .value .now) (a .text .now) (a .ends .now) (a .entries .now)) (nameOf (a .named) (a .name .now)) (a .into) (a .opens) (a .own) (a .size)
     (rw (h .chain-of .ensures, h .before .before .parent-of .ensures, h .before .before .before .before .inner-of .ensures, n .counts-of .ensures)) (e .enter-over .ensures) (c .if1 .taken)
 
 returns-2 : tie.Need-returns-2
@@ -20,7 +21,7 @@ returns-2 c =
     let h = e .before .before .before in
     let n = h .before .before .before .before .before .before in
     let a = n .before .before .before .before .before .before .before .args in
-    enters-done (a .words .now) (stored (a .value .now) (a .text .now) (a .ends .now) (a .entries .now)) (nameOf (a .named) (a .name .now)) (a .into) (a .opens) (a .own) (a .size)
+    enters-done (a .words .now) (storageOf (a .value .now) (a .text .now) (a .ends .now) (a .entries .now)) (nameOf (a .named) (a .name .now)) (a .into) (a .opens) (a .own) (a .size)
     (rw (h .chain-of .ensures, h .before .before .parent-of .ensures, h .before .before .before .before .inner-of .ensures, n .counts-of .ensures)) (e .enter-over .ensures) (i .if1 .left) (c .put-counts .ensures)
 
 pub enter-spec : {M : Type 1} → statement M

@@ -1,5 +1,6 @@
 use borrow.Author.Needs.{needs}
-use Rattle.table.specs.Decide.{nameOf, stored}
+use Rattle.run.specs.Record.{storageOf}
+use Rattle.table.specs.Decide.{nameOf}
 use Rattle.ffi.proofs.CallLaws.{opens-deep, opens-done, opens-stays}
 use Rattle.ffi.proofs.calls.new_container.Statement.{statement}
 use Rattle.ffi.proofs.calls.new_container.Tie as tie
@@ -9,7 +10,7 @@ returns c =
     let e = c .before .before .before .before .before .before in
     let k = e .before .before .before .before .before in
     let a = k .before .before .before .before .before .before .before .args in
-    opens-stays (a .words .now) (stored (a .value .now) (a .text .now) (a .ends .now) (a .entries .now)) (nameOf (a .named) (a .name .now)) (a .object) (e .enter .ensures) (c .if1 .taken)
+    opens-stays (a .words .now) (storageOf (a .value .now) (a .text .now) (a .ends .now) (a .entries .now)) (nameOf (a .named) (a .name .now)) (a .object) (e .enter .ensures) (c .if1 .taken)
 
 put-container-requires : tie.Need-put-container-requires
 put-container-requires c κs =
@@ -17,7 +18,7 @@ put-container-requires c κs =
     let e = i .before .before .before .before .before .before in
     let k = e .before .before .before .before .before in
     let a = k .before .before .before .before .before .before .before .args in
-    rw (k .counts-of .ensures) (opens-deep (a .words .now) (stored (a .value .now) (a .text .now) (a .ends .now) (a .entries .now)) (nameOf (a .named) (a .name .now)) (a .object) (e .enter .ensures) (i .if1 .left))
+    rw (k .counts-of .ensures) (opens-deep (a .words .now) (storageOf (a .value .now) (a .text .now) (a .ends .now) (a .entries .now)) (nameOf (a .named) (a .name .now)) (a .object) (e .enter .ensures) (i .if1 .left))
 
 returns-2 : tie.Need-returns-2
 returns-2 c =
@@ -26,7 +27,7 @@ returns-2 c =
     let e = i .before .before .before .before .before .before in
     let k = e .before .before .before .before .before in
     let a = k .before .before .before .before .before .before .before .args in
-    opens-done (a .words .now) (stored (a .value .now) (a .text .now) (a .ends .now) (a .entries .now)) (nameOf (a .named) (a .name .now)) (a .object) (e .enter .ensures) (i .if1 .left)
+    opens-done (a .words .now) (storageOf (a .value .now) (a .text .now) (a .ends .now) (a .entries .now)) (nameOf (a .named) (a .name .now)) (a .object) (e .enter .ensures) (i .if1 .left)
     (n .note .ensures) (rw (k .counts-of .ensures) at (c .before .before .child .ensures)) (rw (k .counts-of .ensures) at (c .put-container .ensures))
 
 pub new-container-spec : {M : Type 1} → statement M

@@ -1,8 +1,7 @@
 use borrow.Author.Needs.{needs}
-use mathlib.Core.Path.{_∙_, ap}
-use mathlib.Core.Bool.{cond}
-use Rattle.run.specs.Record.{bytes}
-use Rattle.table.specs.Decide.{nameOf, stored}
+use Rattle.run.specs.Record.{bytes, storageOf}
+use Rattle.table.specs.Decide.{nameOf}
+use Rattle.table.proofs.RowLaws.{own-row}
 use Rattle.ffi.specs.Scalars.{kindOf}
 use Rattle.ffi.proofs.CallLaws.{does-appended, does-refused}
 use Rattle.ffi.proofs.calls.variant_append_bytes.Statement.{statement}
@@ -16,8 +15,8 @@ returns c =
     let s = u .before .before .before .before .before .before .before .before in
     let a = s .args in
     let k = o .before .before .before .kind-of .ensures in
-    does-refused (a .words .now) (stored (a .value .now) (a .text .now) (a .ends .now) (a .entries .now)) (nameOf (a .named) (a .name .now)) (bytes (kindOf (a .kind)) (a .bytes .now))
-    (o .row .ensures ∙ ap (λ t. cond t 8 0) (rw k at (o .before .ill-formed .ensures))) (rw k at (o .before .before .bytes-size .ensures)) (e .enter .ensures) (c .if1 .taken)
+    does-refused (a .words .now) (storageOf (a .value .now) (a .text .now) (a .ends .now) (a .entries .now)) (nameOf (a .named) (a .name .now)) (bytes (kindOf (a .kind)) (a .bytes .now))
+    (own-row 8 (o .row .ensures) (rw k at (o .before .ill-formed .ensures))) (rw k at (o .before .before .bytes-size .ensures)) (e .enter .ensures) (c .if1 .taken)
 
 returns-2 : tie.Need-returns-2
 returns-2 c =
@@ -29,8 +28,8 @@ returns-2 c =
     let s = u .before .before .before .before .before .before .before .before in
     let a = s .args in
     let k = o .before .before .before .kind-of .ensures in
-    does-appended (a .words .now) (stored (a .value .now) (a .text .now) (a .ends .now) (a .entries .now)) (nameOf (a .named) (a .name .now)) (bytes (kindOf (a .kind)) (a .bytes .now))
-    (o .row .ensures ∙ ap (λ t. cond t 8 0) (rw k at (o .before .ill-formed .ensures))) (rw k at (o .before .before .bytes-size .ensures)) (e .enter .ensures)
+    does-appended (a .words .now) (storageOf (a .value .now) (a .text .now) (a .ends .now) (a .entries .now)) (nameOf (a .named) (a .name .now)) (bytes (kindOf (a .kind)) (a .bytes .now))
+    (own-row 8 (o .row .ensures) (rw k at (o .before .ill-formed .ensures))) (rw k at (o .before .before .bytes-size .ensures)) (e .enter .ensures)
     (i .if1 .left) (n .note .ensures .1) (rw (k, u .counts-of .ensures) at (c .before .before .write-bytes .ensures))
 
 pub variant-append-bytes-spec : {M : Type 1} → statement M

@@ -1,7 +1,7 @@
 use borrow.Author.Needs.{needs}
-use mathlib.Core.Path.{refl}
-use Rattle.run.specs.Record.{uuid}
-use Rattle.table.specs.Decide.{nameOf, stored}
+use Rattle.run.specs.Record.{uuid, storageOf}
+use Rattle.table.specs.Decide.{nameOf}
+use Rattle.table.proofs.RowLaws.{own-none}
 use Rattle.pieces.proofs.AppendLaws.{uuid-size, writes-uuid}
 use Rattle.ffi.proofs.CallLaws.{does-appended, does-refused}
 use Rattle.ffi.proofs.calls.variant_append_uuid.Statement.{statement}
@@ -13,7 +13,7 @@ returns c =
     let u = e .before .before .before .before .before .before .before in
     let t = u .before .before in
     let a = t .before .before .before .before .before .before .args in
-    does-refused (a .words .now) (stored (a .value .now) (a .text .now) (a .ends .now) (a .entries .now)) (nameOf (a .named) (a .name .now)) (uuid (a .uuid .now)) {own = 0} {size = 17} refl
+    does-refused (a .words .now) (storageOf (a .value .now) (a .text .now) (a .ends .now) (a .entries .now)) (nameOf (a .named) (a .name .now)) (uuid (a .uuid .now)) {own = 0} {size = 17} own-none
     (uuid-size (a .uuid .now) (t .sixteen .ensures)) (e .enter .ensures) (c .if1 .taken)
 
 returns-2 : tie.Need-returns-2
@@ -24,7 +24,7 @@ returns-2 c =
     let u = e .before .before .before .before .before .before .before in
     let t = u .before .before in
     let a = t .before .before .before .before .before .before .args in
-    does-appended (a .words .now) (stored (a .value .now) (a .text .now) (a .ends .now) (a .entries .now)) (nameOf (a .named) (a .name .now)) (uuid (a .uuid .now)) {own = 0} {size = 17} refl
+    does-appended (a .words .now) (storageOf (a .value .now) (a .text .now) (a .ends .now) (a .entries .now)) (nameOf (a .named) (a .name .now)) (uuid (a .uuid .now)) {own = 0} {size = 17} own-none
     (uuid-size (a .uuid .now) (t .sixteen .ensures)) (e .enter .ensures) (i .if1 .left) (n .note .ensures .1)
     (writes-uuid _ (a .uuid .now) (a .value .now) (t .sixteen .ensures) (rw (u .counts-of .ensures) at (c .before .before .write-uuid .ensures)))
 

@@ -1,10 +1,9 @@
 use borrow.Author.Needs.{needs}
-use mathlib.Core.Path.{_∙_, ap}
-use mathlib.Core.Bool.{cond}
 use mir.Syntax.{w64}
 use mir.ValLaws.{toZ-ofZ}
-use Rattle.run.specs.Record.{fixed}
-use Rattle.table.specs.Decide.{nameOf, stored}
+use Rattle.run.specs.Record.{fixed, storageOf}
+use Rattle.table.specs.Decide.{nameOf}
+use Rattle.table.proofs.RowLaws.{own-row}
 use Rattle.ffi.specs.Scalars.{variantOf}
 use Rattle.ffi.proofs.CallLaws.{does-appended, does-refused}
 use Rattle.ffi.proofs.calls.variant_append_value.Statement.{statement}
@@ -18,8 +17,8 @@ returns c =
     let s = u .before .before .before .before .before .before .before in
     let a = s .args in
     let k = rw (toZ-ofZ w64 (a .z) (s .fits .z)) at (o .before .before .before .variant-of .ensures) in
-    does-refused (a .words .now) (stored (a .value .now) (a .text .now) (a .ends .now) (a .entries .now)) (nameOf (a .named) (a .name .now)) (fixed (variantOf (a .code) (a .z) (a .low) (a .scale)))
-    (o .row .ensures ∙ ap (λ t. cond t 7 0) (rw k at (o .before .out-of-range .ensures))) (rw k at (o .before .before .variant-size .ensures)) (e .enter .ensures) (c .if1 .taken)
+    does-refused (a .words .now) (storageOf (a .value .now) (a .text .now) (a .ends .now) (a .entries .now)) (nameOf (a .named) (a .name .now)) (fixed (variantOf (a .code) (a .z) (a .low) (a .scale)))
+    (own-row 7 (o .row .ensures) (rw k at (o .before .out-of-range .ensures))) (rw k at (o .before .before .variant-size .ensures)) (e .enter .ensures) (c .if1 .taken)
 
 returns-2 : tie.Need-returns-2
 returns-2 c =
@@ -31,8 +30,8 @@ returns-2 c =
     let s = u .before .before .before .before .before .before .before in
     let a = s .args in
     let k = rw (toZ-ofZ w64 (a .z) (s .fits .z)) at (o .before .before .before .variant-of .ensures) in
-    does-appended (a .words .now) (stored (a .value .now) (a .text .now) (a .ends .now) (a .entries .now)) (nameOf (a .named) (a .name .now)) (fixed (variantOf (a .code) (a .z) (a .low) (a .scale)))
-    (o .row .ensures ∙ ap (λ t. cond t 7 0) (rw k at (o .before .out-of-range .ensures))) (rw k at (o .before .before .variant-size .ensures)) (e .enter .ensures)
+    does-appended (a .words .now) (storageOf (a .value .now) (a .text .now) (a .ends .now) (a .entries .now)) (nameOf (a .named) (a .name .now)) (fixed (variantOf (a .code) (a .z) (a .low) (a .scale)))
+    (own-row 7 (o .row .ensures) (rw k at (o .before .out-of-range .ensures))) (rw k at (o .before .before .variant-size .ensures)) (e .enter .ensures)
     (i .if1 .left) (n .note .ensures .1) (rw (k, u .counts-of .ensures) at (c .before .before .write-variant .ensures))
 
 pub variant-append-value-spec : {M : Type 1} → statement M

@@ -1,6 +1,5 @@
 use mathlib.Core.Path.{refl}
-use Rattle.run.specs.Record.{close}
-use Rattle.table.specs.Decide.{stored}
+use Rattle.run.specs.Record.{close, storageOf}
 use Rattle.ffi.proofs.CallLaws.{does-moved}
 use borrow.Author.Needs.{needs}
 use Rattle.ffi.proofs.calls.variant_close.Statement.{statement}
@@ -11,7 +10,7 @@ returns c =
     let r = c .before .before .before .before .before .before in
     let v = r .before .before .before in
     let a = v .before .before .before .before .before .before .args in
-    does-moved (a .words .now) (stored (a .value .now) (a .text .now) (a .ends .now) (a .entries .now)) close refl (v .view-of .ensures) (r .close-over .ensures) (c .moved .ensures)
+    does-moved (a .words .now) (storageOf (a .value .now) (a .text .now) (a .ends .now) (a .entries .now)) close refl (v .view-of .ensures) (r .close-over .ensures) (c .moved .ensures)
 
 pub variant-close-spec : {M : Type 1} → statement M
 variant-close-spec =

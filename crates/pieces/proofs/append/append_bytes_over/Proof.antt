@@ -1,7 +1,6 @@
 use borrow.Author.Needs.{needs}
-use mathlib.Core.Path.{_∙_, ap}
-use mathlib.Core.Bool.{cond}
 use Rattle.run.specs.Record.{bytes}
+use Rattle.table.proofs.RowLaws.{own-row}
 use Rattle.pieces.proofs.AppendLaws.{append-stays, append-writes}
 use Rattle.pieces.proofs.append.append_bytes_over.Statement.{statement}
 use Rattle.pieces.proofs.append.append_bytes_over.Tie as tie
@@ -11,7 +10,7 @@ returns c =
     let e = c .before .before .before .before .before .before .before in
     let o = e .before .before .before .before .before in
     let a = o .before .before .before .before .before .before .before .before .before .args in
-    append-stays (bytes (a .kind) (a .bytes .now)) (o .row .ensures ∙ ap (λ t. cond t 8 0) (o .before .ill-formed .ensures)) (o .before .before .bytes-size .ensures) (e .enter-over .ensures) (c .if1 .taken)
+    append-stays (bytes (a .kind) (a .bytes .now)) (own-row 8 (o .row .ensures) (o .before .ill-formed .ensures)) (o .before .before .bytes-size .ensures) (e .enter-over .ensures) (c .if1 .taken)
 
 returns-2 : tie.Need-returns-2
 returns-2 c =
@@ -20,7 +19,7 @@ returns-2 c =
     let e = i .before .before .before .before .before .before .before in
     let o = e .before .before .before .before .before in
     let a = o .before .before .before .before .before .before .before .before .before .args in
-    append-writes (bytes (a .kind) (a .bytes .now)) (o .row .ensures ∙ ap (λ t. cond t 8 0) (o .before .ill-formed .ensures)) (o .before .before .bytes-size .ensures) (e .enter-over .ensures)
+    append-writes (bytes (a .kind) (a .bytes .now)) (own-row 8 (o .row .ensures) (o .before .ill-formed .ensures)) (o .before .before .bytes-size .ensures) (e .enter-over .ensures)
     (i .if1 .left) (n .note .ensures .1) (c .before .before .write-bytes .ensures)
 
 pub append-bytes-over-spec : {M : Type 1} → statement M

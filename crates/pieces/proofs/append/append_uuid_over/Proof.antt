@@ -1,9 +1,10 @@
 use borrow.Author.Needs.{needs}
-use mathlib.Core.Path.{_≡_, refl}
+use mathlib.Core.Path.{_≡_}
 use lib.ListN.{length}
 use mir.Syntax.{w8}
 use borrow.Kind.Array.{eInt, good-length}
 use Rattle.run.specs.Record.{uuid}
+use Rattle.table.proofs.RowLaws.{own-none}
 use Rattle.pieces.proofs.AppendLaws.{append-stays, append-writes, uuid-size, writes-uuid}
 use Rattle.pieces.proofs.append.append_uuid_over.Statement.{statement}
 use Rattle.pieces.proofs.append.append_uuid_over.Tie as tie
@@ -16,7 +17,7 @@ returns : tie.Need-returns
 returns c =
     let e = c .before .before .before .before .before .before .before in
     let s = e .before .before .before .before .before .before .before .before .before .before in
-    append-stays (uuid (s .args .uuid)) {own = 0} {size = 17} refl (uuid-size (s .args .uuid) (whole s)) (e .enter-over .ensures) (c .if1 .taken)
+    append-stays (uuid (s .args .uuid)) {own = 0} {size = 17} own-none (uuid-size (s .args .uuid) (whole s)) (e .enter-over .ensures) (c .if1 .taken)
 
 returns-2 : tie.Need-returns-2
 returns-2 c =
@@ -25,7 +26,7 @@ returns-2 c =
     let e = i .before .before .before .before .before .before .before in
     let s = e .before .before .before .before .before .before .before .before .before .before in
     let a = s .args in
-    append-writes (uuid (a .uuid)) {own = 0} {size = 17} refl (uuid-size (a .uuid) (whole s)) (e .enter-over .ensures)
+    append-writes (uuid (a .uuid)) {own = 0} {size = 17} own-none (uuid-size (a .uuid) (whole s)) (e .enter-over .ensures)
     (i .if1 .left) (n .note .ensures .1) (writes-uuid (a .v .counts .value) (a .uuid) (a .value .now) (whole s) (c .before .before .write-uuid .ensures))
 
 pub append-uuid-over-spec : {M : Type 1} → statement M

@@ -1,12 +1,12 @@
 -- Rows 2, 4 and 15 first, and row 1 with them; else the dictionary's answer.
 use borrow.Author.Needs.{needs}
 use Rattle.pieces.proofs.FinishLaws.{Finishable, ends-damaged, ends-full, ends-written, finishable, finishes-early}
-use Rattle.table.specs.Decide.{stored}
+use Rattle.run.specs.Record.{storageOf}
 use Rattle.pieces.proofs.dictionary.finish_over.Statement.{statement}
 use Rattle.pieces.proofs.dictionary.finish_over.Tie as tie
 
 -- none of these holds
-left : (c : tie.Else1) → let a = c .before .before .before .before .before .before .before .before .args in Finishable (a .v) (stored (a .value .now) (a .text .now) (a .ends .now) (a .entries .now)) (a .out .now)
+left : (c : tie.Else1) → let a = c .before .before .before .before .before .before .before .before .args in Finishable (a .v) (storageOf (a .value .now) (a .text .now) (a .ends .now) (a .entries .now)) (a .out .now)
 left c = finishable (c .before .before .finish-number .ensures (c .before .before .before .before .before .before .before .before .args .out .now)) (c .if1 .left)
 
 returns : tie.Need-returns

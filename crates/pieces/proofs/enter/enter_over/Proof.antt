@@ -1,7 +1,7 @@
 -- Refused, the record stays; else the name, the counts and the place are those of the definition.
 use borrow.Author.Needs.{needs}
 use native.Mathlib.Omega.{arith}
-use Rattle.table.specs.Decide.{stored}
+use Rattle.run.specs.Record.{storageOf}
 use Rattle.pieces.proofs.EnterLaws.{entered-refused, enters, enters-bounds}
 use Rattle.pieces.proofs.enter.enter_over.Statement.{statement}
 use Rattle.pieces.proofs.enter.enter_over.Tie as tie
@@ -15,7 +15,7 @@ counts-with-requires c κs =
     let e = i .before .before .before .before in
     let s = e .before .before .before .before .before .before .before .before in
     let a = s .args in
-    let l = stored (a .value .now) (a .text .now) (a .ends .now) (a .entries .now) in
+    let l = storageOf (a .value .now) (a .text .now) (a .ends .now) (a .entries .now) in
     let g = s .good .1 .1 .1 .1 .0 in
     enters-bounds (a .v) l (a .named) (a .name .now) (a .into) (a .opens) (a .own) (a .size) (e .enter-number .ensures) (i .before .before .unique-now .ensures) (i .if1 .left) (omega arith)
 
@@ -27,7 +27,7 @@ returns-2 c =
     let i = n .before .before .before .before .before in
     let e = i .before .before .before .before in
     let a = e .before .before .before .before .before .before .before .before .args in
-    enters (a .v) (stored (a .value .now) (a .text .now) (a .ends .now) (a .entries .now)) (a .named) (a .name .now) (a .into) (a .opens) (a .own) (a .size)
+    enters (a .v) (storageOf (a .value .now) (a .text .now) (a .ends .now) (a .entries .now)) (a .named) (a .name .now) (a .into) (a .opens) (a .own) (a .size)
     (e .enter-number .ensures) (i .before .before .unique-now .ensures) (i .if1 .left) (n .with-name .ensures) (s .less .ensures) (k .counts-with .ensures) (c .place-of .ensures)
 
 pub enter-over-spec : {M : Type 1} → statement M

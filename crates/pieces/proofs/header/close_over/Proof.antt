@@ -1,6 +1,6 @@
 use borrow.Author.Needs.{needs}
 use Rattle.pieces.proofs.CloseLaws.{Closable, closable, closes-early, leaves-closed, leaves-none, undamaged}
-use Rattle.table.specs.Decide.{stored}
+use Rattle.run.specs.Record.{storageOf}
 use Rattle.pieces.proofs.header.close_over.Statement.{statement}
 use Rattle.pieces.proofs.header.close_over.Tie as tie
 
@@ -8,7 +8,7 @@ use Rattle.pieces.proofs.header.close_over.Tie as tie
 left : (c : tie.Else1)
     → let d = c .before .before in
     let a = d .before .before .before .before .before .before .before .args in
-    Closable (a .v) (stored (a .value .now) (a .text .now) (a .ends .now) (a .entries .now)) (d .close-number .result .largest)
+    Closable (a .v) (storageOf (a .value .now) (a .text .now) (a .ends .now) (a .entries .now)) (d .close-number .result .largest)
 left c = closable (c .before .before .close-number .ensures) (c .if1 .left)
 
 returns : tie.Need-returns

@@ -1,7 +1,7 @@
 -- Number 1 where every call has it; else the rows over what is known of the name, and its field where the number is 0.
 use borrow.Author.Needs.{needs}
 use mathlib.Core.Path.{sym, _∙_}
-use Rattle.table.specs.Decide.{stored}
+use Rattle.run.specs.Record.{storageOf}
 use Rattle.table.proofs.RowLaws.{enter-decides, decides-broken}
 use Rattle.table.proofs.numbers.enter_number.Statement.{statement}
 use Rattle.table.proofs.numbers.enter_number.Tie as tie
@@ -18,7 +18,7 @@ returns-2 c =
     let s = n .before .before .before in
     let b = s .before .before in
     let a = b .before .before .before .before .before .before .args in
-    enter-decides (a .v) (stored (a .value .now) (a .text .now) (a .ends .now) (a .entries .now)) (a .named) (a .name .now)
+    enter-decides (a .v) (storageOf (a .value .now) (a .text .now) (a .ends .now) (a .entries .now)) (a .named) (a .name .now)
     (sym (b .broken .ensures) ∙ s .before .if1 .left) (s .field-of .ensures) (a .opens) (a .own) (a .size) (n .before .fits2 .ensures) (n .enter-rows .ensures) (c .decided2 .ensures)
 
 pub enter-number-spec : {M : Type 1} → statement M

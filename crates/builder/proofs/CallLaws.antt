@@ -18,15 +18,14 @@ use Rattle.run.specs.Damage.{overUsed, grown, unchained}
 use Rattle.run.proofs.Demand1.{none-at}
 use Rattle.table.proofs.ViewLaws.{neither}
 use Rattle.run.specs.Table.{numberOf}
-use Rattle.run.specs.Step.{step, after, carriedOut, containersAfter, newContainer, marked}
+use Rattle.run.specs.Step.{Outcome, step, after, carriedOut, containersAfter, newContainer, marked}
 use Rattle.builder.specs.declared.Answer.{Answer}
 use Rattle.builder.specs.declared.Answer.the-variants.{Done, Refused}
 use Rattle.builder.specs.declared.Called.{Called}
-use Rattle.builder.specs.declared.FinishAnswer.the-variants as finished
 use Rattle.builder.specs.declared.FinishCalled.{FinishCalled}
 use Rattle.pieces.specs.declared.Moved.{Moved}
 use Rattle.pieces.specs.declared.Opened.{Opened}
-use Rattle.builder.specs.Calls.{answerNumber, answerOf, state, calledBy, Does, finishNumber, bytesWritten, finishAnswer, Finishes}
+use Rattle.builder.specs.Calls.{answerNumber, answerOf, state, calledBy, Does, finishAnswer, Finishes}
 use Rattle.pieces.specs.declared.Ended.{Ended}
 use Rattle.pieces.specs.Pieces.{Leaves, Opens, Ends}
 
@@ -38,20 +37,9 @@ answer-number n = go (eqb n 0) refl
     go true e = sym (eqb-true n 0 e)
     go false e = refl
 
--- and so has a finish's, with the bytes written
-pub finish-answer-number : (n w : ℕ) → finishNumber (finishAnswer n w) ≡ n
-finish-answer-number n w = go (eqb n 0) refl
-  where
-    go : (t : Bool) → eqb n 0 ≡ t → finishNumber (cond t (finished.Written w) (finished.Refused n)) ≡ n
-    go true e = sym (eqb-true n 0 e)
-    go false e = refl
-
-pub finish-answer-written : (n w : ℕ) → bytesWritten (finishAnswer n w) ≡ cond (eqb n 0) w 0
-finish-answer-written n w = go (eqb n 0)
-  where
-    go : (t : Bool) → bytesWritten (cond t (finished.Written w) (finished.Refused n)) ≡ cond t w 0
-    go true = refl
-    go false = refl
+-- so that a call's number follows from what it gives back
+does : (o : Outcome) {x : Called} {e : Storage} → (x ≡ calledBy o) × (e ≡ o .state .storage) → Does x e o
+does o h = (h .0, h .1, ap (λ (y : Called). answerNumber (y .answer)) (h .0) ∙ answer-number (o .number))
 
 -- ---- a step by its number
 
@@ -80,9 +68,9 @@ withMoved b r = record { answer = answerOf (r .number); builder = record { conta
 pub does-moved : (b : Builder) (l : Storage) (c : Call) {v : View} {r : Moved} {e : Storage} {x : Called} → containersAfter (viewOf b) l c (b .containers) ≡ b .containers
     → v ≡ viewOf b → Leaves v l c r e → x ≡ withMoved b r → Does x e (step (state b l) c)
 unfolding after
-does-moved b l c {v} {r} {e} {x} k p q d = go (eqb (numberOf (viewOf b) l c) 0) refl (rw p at q)
+does-moved b l c {v} {r} {e} {x} k p q d = does (step (state b l) c) (go (eqb (numberOf (viewOf b) l c) 0) refl (rw p at q))
   where
-    go : (t : Bool) → eqb (numberOf (viewOf b) l c) 0 ≡ t → Leaves (viewOf b) l c r e → Does x e (step (state b l) c)
+    go : (t : Bool) → eqb (numberOf (viewOf b) l c) 0 ≡ t → Leaves (viewOf b) l c r e → (x ≡ calledBy (step (state b l) c)) × (e ≡ step (state b l) c .state .storage)
     go true z q = rw (step-done b l c z, step-done-storage b l c z, d, q .number, q .counts, q .storage, z, k) (refl, refl)
     go false z q = rw (step-refused b l c z, step-refused-storage b l c z, d, q .number, q .counts, q .storage, z) (refl, refl)
 
@@ -92,7 +80,7 @@ module _ (b : Builder) (l : Storage) (nm : Option Name) (object : Bool) {v : Vie
   does-refused h d =
       let w = rw p at q in
       let z = ne-eqb (numberOf (viewOf b) l (openIn nm object)) 0 (λ f. h (w .number ∙ f)) in
-      rw (step-refused b l (openIn nm object) z, step-refused-storage b l (openIn nm object) z, d, w .number, w .storage, z) (refl, refl)
+      does (step (state b l) (openIn nm object)) (rw (step-refused b l (openIn nm object) z, step-refused-storage b l (openIn nm object) z, d, w .number, w .storage, z) (refl, refl))
 
   pub does-opened : {a : Answer} → r .number ≡ 0 → a ≡ answerOf 0
       → Does (record { answer = a; builder = record { containers = set (b .containers) (b .counts .depth) (r .container); counts = r .counts } }) e (step (state b l) (openIn nm object))
@@ -100,7 +88,7 @@ module _ (b : Builder) (l : Storage) (nm : Option Name) (object : Bool) {v : Vie
   does-opened h d =
       let w = rw p at q in
       let z = eq-eqb (numberOf (viewOf b) l (openIn nm object)) 0 (sym (w .number) ∙ h) in
-      rw (step-done b l (openIn nm object) z, step-done-storage b l (openIn nm object) z, d, w .container, w .counts, w .storage, z) (refl, refl)
+      does (step (state b l) (openIn nm object)) (rw (step-done b l (openIn nm object) z, step-done-storage b l (openIn nm object) z, d, w .container, w .counts, w .storage, z) (refl, refl))
 
   -- there is room for the container
   pub opened-deep : r .number ≡ 0 → b .counts .depth < 64
@@ -114,7 +102,7 @@ module _ (b : Builder) (l : Storage) (u : Bool) {v : View} {n : ℕ} (p : v ≡ 
   unique-refused h d =
       let w : n ≡ numberOf (viewOf b) l (uniqueness u) = rw p at (q u) in
       let z = ne-eqb (numberOf (viewOf b) l (uniqueness u)) 0 (λ f. h (w ∙ f)) in
-      rw (step-refused b l (uniqueness u) z, step-refused-storage b l (uniqueness u) z, d, w, z) (refl, refl)
+      does (step (state b l) (uniqueness u)) (rw (step-refused b l (uniqueness u) z, step-refused-storage b l (uniqueness u) z, d, w, z) (refl, refl))
 
   pub unique-marked : {a : Answer} {k : Container} → n ≡ 0 → a ≡ answerOf 0 → k ≡ marked (v .inner) u
       → Does (record { answer = a; builder = record { containers = set (b .containers) (b .counts .depth - 1) k; counts = b .counts } }) l (step (state b l) (uniqueness u))
@@ -122,7 +110,7 @@ module _ (b : Builder) (l : Storage) (u : Bool) {v : View} {n : ℕ} (p : v ≡ 
   unique-marked h d k =
       let w : n ≡ numberOf (viewOf b) l (uniqueness u) = rw p at (q u) in
       let z = eq-eqb (numberOf (viewOf b) l (uniqueness u)) 0 (sym w ∙ h) in
-      rw (step-done b l (uniqueness u) z, step-done-storage b l (uniqueness u) z, d, k, p) (refl, refl)
+      does (step (state b l) (uniqueness u)) (rw (step-done b l (uniqueness u) z, step-done-storage b l (uniqueness u) z, d, k, p) (refl, refl))
 
   -- the innermost is one of the 64
   pub unique-open : n ≡ 0 → (0 < b .counts .depth) × (b .counts .depth ≤ 64)
@@ -145,5 +133,5 @@ unfolding step after
 does-finished b l out {v} {r} {left} {x} p q d = go (eqb (numberOf (viewOf b) l (finish out)) 0) refl (rw p at q)
   where
     go : (t : Bool) → eqb (numberOf (viewOf b) l (finish out)) 0 ≡ t → Ends (viewOf b) l out r left → Finishes x l left (step (state b l) (finish out))
-    go true z q = rw (d, q .number, q .counts, q .written, q .output, z) (refl, refl, refl)
-    go false z q = rw (d, q .number, q .counts, q .written, q .output, z) (rw z, refl, refl)
+    go true z q = rw (d, q .number, q .counts, q .written, q .output, z) (refl, refl, refl, refl, refl)
+    go false z q = rw (d, q .number, q .counts, q .written, q .output, z) (rw z, refl, refl, refl, refl)

@@ -185,7 +185,7 @@ module _ (R : Reply) {M : Type 1} (𝓤 : URA M) (H : Heap 𝓤) (A : Atoms 𝓤
       by ! (exits c (ws .0) (ws .1) e made))))))))))))))))))
 
 pub thin-does : (c : Answer) (w : Builder) (after : Storage) (s : State) (k : Call) → DoesThin c w after s k → Does (called .make c w) after (step s k)
-thin-does c w after s k e = (λ i. called .make (e .0 i) (e .1 i), e .2)
+thin-does c w after s k e = (λ i. called .make (e .0 i) (e .1 i), e .2, e .3)
 
 pub thin-finishes : (c : FinishAnswer) (w : Builder) (after : Storage) (out : List ℕ) (s : State) (k : Call) → FinishesThin c w after out s k → Finishes (finishCalled .make c w) after out (step s k)
-thin-finishes c w after out s k e = (λ i. finishCalled .make (e .0 i) (e .1 i), e .2, e .3)
+thin-finishes c w after out s k e = (λ i. finishCalled .make (e .0 i) (e .1 i), e .2, e .3, e .4, e .5)

@@ -11,14 +11,11 @@ use Rattle.run.specs.Step.{Outcome, step, writtenBy}
 use Rattle.builder.specs.declared.Called.{Called}
 use Rattle.builder.specs.declared.FinishCalled.{FinishCalled}
 use Rattle.builder.specs.Calls.{Does, Finishes}
-use Rattle.builder.proofs.CallLaws.{answer-number, finish-answer-number, finish-answer-written}
 use Rattle.calls.specs.declared.LendCalled.{LendCalled}
 use Rattle.calls.specs.declared.Call.{Call as Asked}
 use Rattle.calls.specs.Calls.{callOf, outputAfter, lentStep, outcomeOf, lentBy, finishedBy}
 
--- ---- the bytes that a step wrote
-
--- none, where its call writes none
+-- a step writes no bytes of the output where its call writes none
 written-none : (s : State) (k : Call) → writtenBy (viewOf (s .builder)) (s .storage) k ≡ 0 → step s k .written ≡ 0
 unfolding step
 written-none s k z = go (eqb (numberOf (viewOf (s .builder)) (s .storage) k) 0) _ _ z refl
@@ -26,19 +23,6 @@ written-none s k z = go (eqb (numberOf (viewOf (s .builder)) (s .storage) k) 0) 
     go : (t : Bool) (o p : Outcome) → o .written ≡ 0 → p .written ≡ 0 → cond t o p .written ≡ 0
     go true o p e f = e
     go false o p e f = f
-
--- none, where it is refused
-written-done : (s : State) (k : Call) → cond (eqb (step s k .number) 0) (step s k .written) 0 ≡ step s k .written
-unfolding step
-written-done s k = go (eqb (numberOf (viewOf (s .builder)) (s .storage) k) 0) _ _ refl refl
-  where
-    either : (t : Bool) (n : ℕ) → cond t n n ≡ n
-    either true n = refl
-    either false n = refl
-
-    go : (t : Bool) (o p : Outcome) → o .number ≡ 0 → p .written ≡ 0 → cond (eqb (cond t o p .number) 0) (cond t o p .written) 0 ≡ cond t o p .written
-    go true o p e f = rw e
-    go false o p e f = rw f (either (eqb (p .number) 0) 0)
 
 -- ---- a call that has no output, and a finish. s, named, name, bs, id, was, v: the state, the name or none, the bytes, the UUID, the output, the call asked for
 
@@ -48,8 +32,8 @@ module _ (s : State) (named : Bool) (name : Name) (bs id was : List ℕ) {q : As
 
   pub lends : {after : Storage} {c : Called} {r : LendCalled} → writtenBy (viewOf (s .builder)) (s .storage) k ≡ 0 → outputAfter k was (step s k .output) ≡ was → Does c after (step s k) → r ≡ lentBy c
       → outcomeOf r after was ≡ lentStep s (callOf q named name bs id was) was
-  lends z o d f = rw (e, f, d .0, d .1, o, written-none s k z, answer-number (step s k .number))
+  lends z o d f = rw (e, f, d .2, d .0, d .1, o, written-none s k z)
 
   pub finishes : {after : Storage} {c : FinishCalled} {out : List ℕ} {r : LendCalled} → outputAfter k was (step s k .output) ≡ step s k .output → Finishes c after out (step s k) → r ≡ finishedBy c
       → outcomeOf r after out ≡ lentStep s (callOf q named name bs id was) was
-  finishes o d f = rw (e, f, d .0, d .1, d .2, o, finish-answer-number (step s k .number) (step s k .written), finish-answer-written (step s k .number) (step s k .written), written-done s k)
+  finishes o d f = rw (e, f, d .3, d .4, d .0, d .1, d .2, o)

@@ -3,3 +3,4 @@ pub mod Lent
 pub mod ThinLaws
 pub mod BridgeLaws
 pub mod LendLaws
+pub mod ChainLaws

@@ -17,13 +17,16 @@ use Rattle.calls.specs.declared.Call.{Call as Asked}
 use Rattle.calls.specs.declared.Call.the-variants as asked
 use Rattle.calls.specs.declared.LendCalled.{LendCalled}
 
--- its answer, the record at exit and the storage at exit are those of the step from the state at entry
+-- its answer, the record at exit and the storage at exit are those of the step from the state at entry, and so is the answer's
+-- number
 abbrev pub DoesThin : Answer → Builder → Storage → State → Call → Type 0
-DoesThin r b after s k = (r ≡ answerOf (step s k .number)) × (b ≡ step s k .state .builder) × (after ≡ step s k .state .storage)
+DoesThin r b after s k = (r ≡ answerOf (step s k .number)) × (b ≡ step s k .state .builder) × (after ≡ step s k .state .storage) × (answerNumber r ≡ step s k .number)
 
--- finish: its output at exit too
+-- finish: its output at exit too, and the answer's bytes
 abbrev pub FinishesThin : FinishAnswer → Builder → Storage → List ℕ → State → Call → Type 0
-FinishesThin r b after out s k = (r ≡ finishAnswer (step s k .number) (step s k .written)) × (b ≡ step s k .state .builder) × (after ≡ step s k .state .storage) × (out ≡ step s k .output)
+FinishesThin r b after out s k =
+    (r ≡ finishAnswer (step s k .number) (step s k .written)) × (b ≡ step s k .state .builder) × (after ≡ step s k .state .storage) × (out ≡ step s k .output)
+    × (finishNumber r ≡ step s k .number) × (bytesWritten r ≡ step s k .written)
 
 -- ---- `lend`
 

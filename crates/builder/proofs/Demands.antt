@@ -1,0 +1,42 @@
+-- Demands 2 and 3 of the calls of this crate, made one after the other.
+use mathlib.Core.Path.{_≡_, refl}
+use mathlib.Core.Logic.{_↔_}
+use mathlib.Core.Bool.{Bool}
+use mathlib.Core.List.{List}
+use mathlib.Core.Option.{some}
+use Prim.Native.Nat.{ℕ}
+use lib.ListN.{length-replicate}
+use Rattle.metadata.specs.Bytes.{dictionaryNames}
+use Rattle.run.specs.declared.Builder.{Builder}
+use Rattle.run.specs.Record.{State, Call, noContainer}
+use Rattle.run.specs.Tree.{Tree, encode}
+use Rattle.run.specs.Run.{Fresh, valueBytes, kept, keptDictionary, Made, FinishedCalls}
+use Rattle.run.specs.Run.{noCall as none-made, aCall as call-made, aFinish as finish-made}
+use Rattle.run.proofs.Demands as run
+use Rattle.builder.specs.Calls.{state, freshOf, Chain, noCall, aCall, aFinish, FinishedChain}
+
+-- the builder that `new` made is fresh
+pub new-fresh : {b : Builder} (u : Bool) → b ≡ freshOf u → Fresh b
+unfolding freshOf
+new-fresh u e = rw e (record { value = refl; entries = refl; depth = refl; dictionary = refl; finished = refl; containers = length-replicate 64 noContainer })
+
+-- calls made by their contracts are made as `run` says
+pub chain-made : {s u : State} {cs : List Call} {d : List ℕ} → Chain s cs u d → Made s cs u d
+chain-made noCall = none-made
+chain-made (aCall f h m) = call-made f (λ i. state (h .0 i .builder) (h .1 i)) (chain-made m)
+chain-made (aFinish h m) = finish-made (h .3) (λ i. state (h .0 i .builder) (h .1 i)) (h .2) (h .4) (chain-made m)
+
+chain-finished : {s u : State} {cs : List Call} {d : List ℕ} → FinishedChain s cs u d → FinishedCalls s cs u d
+chain-finished r = record { fresh = r .fresh; made = chain-made (r .calls); finished = r .finished }
+
+-- 2 Exact. The value bytes are the kept top value's, and the dictionary is that of the kept names.
+pub value : {s u : State} {cs : List Call} {d : List ℕ} → FinishedChain s cs u d → (t : Tree) × (kept s cs .top ≡ some t) × (valueBytes u ≡ encode (kept s cs .names) t)
+value r = run.made-value (chain-finished r)
+
+pub written : {s u : State} {cs : List Call} {d : List ℕ} → FinishedChain s cs u d → (d ≡ keptDictionary s cs) × (dictionaryNames d ≡ kept s cs .names)
+written r = run.made-written (chain-finished r)
+
+-- 3 Faithful. Of two such chains, value bytes and dictionary names are equal exactly when the kept records are.
+pub faithful : {s t u v : State} {cs ds : List Call} {d e : List ℕ} → FinishedChain s cs u d → FinishedChain t ds v e
+    → ((valueBytes u ≡ valueBytes v) × (dictionaryNames d ≡ dictionaryNames e)) ↔ (kept s cs ≡ kept t ds)
+faithful r q = run.made-faithful (chain-finished r) (chain-finished q)

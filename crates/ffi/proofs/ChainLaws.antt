@@ -1,0 +1,27 @@
+-- Word calls made one after the other are calls made (`Made`, run/specs/Run.antt), so that the demands hold of them
+-- (run/proofs/Demands.antt): each gets the words and the storage that the last one left. The maker's words are a fresh builder
+-- (`new-fresh`, CallLaws.antt).
+use mathlib.Core.Path.{_≡_, refl}
+use mathlib.Core.Bool.{Bool, true, false, cond}
+use mathlib.Core.List.{List, _∷_}
+use Prim.Native.Nat.{ℕ}
+use lib.Dec.{eqb}
+use lib.ListN.{take}
+use Rattle.run.specs.Record.{Storage, State, Call, finish}
+use Rattle.run.specs.Step.{step}
+use Rattle.run.specs.Run.{isFinish, Made, aCall, aFinish}
+use Rattle.ffi.specs.Words.{stateOf, DoesWords, FinishesWords}
+
+module _ {ws us : List ℕ} {l after : Storage} {n : ℕ} {u : State} {cs : List Call} {d : List ℕ} where
+  pub words-call : {c : Call} → isFinish c ≡ false → DoesWords n ws us after (step (stateOf ws l) c) → Made (stateOf us after) cs u d → Made (stateOf ws l) (c ∷ cs) u d
+  words-call f h m = aCall f (λ i. record { builder = h .builder i; storage = h .storage i }) m
+
+  -- was, w: the bytes written, before and then
+  pub words-finish : {out left : List ℕ} {was w : ℕ} → FinishesWords n ws us after left was w (step (stateOf ws l) (finish out)) → Made (stateOf us after) cs u d
+      → Made (stateOf ws l) (finish out ∷ cs) u (cond (eqb n 0) (take w left) d)
+  words-finish {out} {left} {was} h m =
+      rw (h .length, same (eqb n 0) (step (stateOf ws l) (finish out) .written)) (aFinish (h .does .number) (λ i. record { builder = h .does .builder i; storage = h .does .storage i }) (h .output) refl m)
+    where
+      same : (t : Bool) (x : ℕ) → cond t (take (cond t x was) left) d ≡ cond t (take x left) d
+      same true x = refl
+      same false x = refl

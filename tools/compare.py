@@ -1,15 +1,17 @@
 #!/usr/bin/env python3
 """Holds a writer against the model of document 01 and against the Rust, by random scripts of calls.
 
-    compare.py WRITER MODEL [ORACLE] [--seed S] [--calls N] [--kind KIND]
+    compare.py WRITER MODEL [ORACLE] [--seed S] [--calls N] [--kind KIND] [--with SET]
     compare.py --sample FOLDER MODEL ORACLE [--seed S]
 
 WRITER and ORACLE are programs that answer a script on stdin, MODEL is the folder of model.py and script.py,
-whose README has the grammar. N counts the calls held against ORACLE, or without it against the model.
+whose README has the grammar. N counts the calls held against ORACLE, or without it against the model. SET names
+the requests of document 02 by which the model answers, as its --with does; WRITER answers by what has landed.
 
 Every answer of WRITER must be the model's. ORACLE gets the same runs but for altered storage, without the calls
-that are refused with a number other than 6, 10 and 15 (a refusal changes nothing) and without dumps; each of its
-answers must be WRITER's. A run with an accepted scalar that the Rust's types don't hold is left out.
+that are refused with a number other than 6, 10 and 15 (a refusal changes nothing; so none of 17 and above) and
+without dumps; each of its answers must be WRITER's. Left out is a run with an accepted scalar that the Rust's types
+don't hold, a name registered inside a container, a floor other than 1, a mark set or returned to.
 --sample writes scripts.txt and answers.txt: short runs of calls that the Rust answers, and its answers.
 """
 import argparse
@@ -21,18 +23,20 @@ import time
 
 import scripts
 
-CALLS = ("register", "append", "open", "close", "rollback", "unique", "finish")
+CALLS = ("register", "append", "open", "close", "rollback", "unique", "mark", "return", "finish")
+OPENED = {"open": 1, "close": -1, "rollback": -1}
 BATCH = 30_000
 SHOWN = 5
 LIMITS = {"value": 2048, "namebytes": 512, "names": 64, "entries": 256, "out": 1024}
 
 
-def load(folder):
-    """The model's module, with the grammar's two functions."""
+def load(folder, wanted):
+    """The model's module, with the grammar's two functions and the requests wanted, which each of its sessions is given."""
     sys.path.insert(0, folder)
     import model
     import script
     model.format_call = script.format_call
+    model.on = model.requests(wanted)
     return model
 
 
@@ -43,15 +47,25 @@ def ask(program, lines):
     return answers + [f"fell with {done.returncode}: {done.stderr.strip()[-200:]}"] * (done.returncode != 0)
 
 
+def beyond_rust(call, depth):
+    """Whether an accepted call, with so many containers open, is one that the Rust does not have."""
+    if call[0] == "new":
+        return call[1].get("floor", 1) != 1
+    if call[0] == "register":
+        return depth > 0
+    return call[0] in ("mark", "return") or call[0] == "append" and not scripts.rust_holds(call[2])
+
+
 def for_oracle(model, calls, answers):
     """The places of the lines that the Rust answers, or None where the run is left out."""
-    places = []
+    places, depth = [], 0
     for i, (call, answer) in enumerate(zip(calls, answers)):
         held = call[0] != "append" or scripts.rust_holds(call[2])
         if call[0] == "new" or answer.startswith("ok"):
-            if not held:
+            if beyond_rust(call, depth):
                 return None
             places.append(i)
+            depth += OPENED.get(call[0], 0)
         elif answer in ("refused 6", "refused 10", "refused 15"):
             # 6 comes before 7 and 8: the Rust cannot say what those would refuse
             if held and (call[0] != "append" or not model.scalar_refusal(call[2])):
@@ -62,7 +76,7 @@ def for_oracle(model, calls, answers):
 # ---------------------------------------------------------------- one run again, smaller
 
 def model_answers(model, calls):
-    session = model.Session()
+    session = model.Session(model.on)
     return [session.answer(call) for call in calls]
 
 
@@ -243,11 +257,12 @@ def main():
     parser.add_argument("--seed", default="1")
     parser.add_argument("--calls", type=int, default=100_000)
     parser.add_argument("--kind", choices=list(scripts.MAKERS))
+    parser.add_argument("--with", dest="wanted", default="", metavar="SET")
     parser.add_argument("--sample", metavar="FOLDER")
     args = parser.parse_args()
     names = [None, *args.programs] if args.sample else [*args.programs, None]
     args.writer, folder, args.oracle = names[:3]
-    model = load(folder)
+    model = load(folder, args.wanted)
     return sample(model, args) if args.sample else compare(model, args)
 
 

@@ -1,24 +1,32 @@
-#!/usr/bin/env python3
-"""Writes crates/replay/stdin: the scripts of crates/replay/data/scripts.txt and the real Rust's answers to them, data/answers.txt,
-recoded so that the program `replay` needs no parser. Nothing is computed here.
+"""Writes crates/replay/stdin: two sets of scripts with their answers, recoded so that the program `replay` needs no parser. Nothing is
+computed here. In crates/replay/data are
+- scripts.txt and the real Rust's answers to them, answers.txt, both made by tools/compare.py --sample;
+- edges.txt, written by hand: each of document 01's numbers refused, and just not, some over a record or storage altered by pokes; and
+  edges_answers.txt, the answers of a model of document 01, since the Rust has no such cases. --answers MODEL, the folder of
+  model.py, makes them again, with the landed requests named by --with.
 
-    python3 tools/replay.py [ROOT]
+    python3 tools/replay.py [ROOT] [--answers MODEL [--with SET]]
 
 All is hexadecimal; sizes are two bytes, highest first. The first line is the number of scripts. A script is a line of its mark,
-how many calls follow, and the storage that it is lent (value, namebytes, names, entries; `fill` is not used); then a line for
-each call, of three fields:
-- the call (CALLS), its argument (the mark, or which scalar), the refusal's number or 0, whether a name is given, the size of the
-  output, and the sizes of the next two fields;
-- the name, or the dictionary that a finish must give;
-- the scalar: the bytes of a text, a binary or a UUID, else an integer of 16 bytes and the scale; or the value that a finish must
-  give."""
+how many lines follow, and the storage that it is lent (value, namebytes, names, entries; `fill` is not used); then a line for
+each call, poke and dump, of three fields:
+- the call (CALLS), its argument (the mark, which scalar, or which poke), the refusal's number or 0, whether a name is given, the size
+  of the output or the place of a poke, and the sizes of the next two fields;
+- the name, the dictionary that a finish must give, or the five used counts that a dump must show (COUNTS), of eight bytes each;
+- the scalar: the bytes of a text, a binary or a UUID, else an integer of 16 bytes and the scale; the value that a finish or a dump
+  (with argument 1) must give; or a poke's bytes, or its numbers of eight bytes each."""
+import argparse
 import os
+import subprocess
 import sys
 
-CALLS = ['', 'register', 'list', 'object', 'close', 'rollback', 'unique', 'bytes', 'uuid', 'scalar', 'finish']
+CALLS = ['', 'register', 'list', 'object', 'close', 'rollback', 'unique', 'bytes', 'uuid', 'scalar', 'finish', 'poke', 'dump']
 BYTES = ['binary', 'string', 'short', 'text']
 SCALARS = ['null', 'true', 'false', 'int8', 'int16', 'int32', 'int64', 'float', 'double', 'date', 'time', 'tsmicros',
            'tsntzmicros', 'tsnanos', 'tsntznanos', 'dec4', 'dec8', 'dec16']
+COUNTS = ['value_used', 'names_used', 'namebytes_used', 'entries_used', 'open']
+POKES = [*COUNTS, 'unique', 'sorted', 'finished', 'container value', 'container names', 'container namebytes', 'container entries',
+         'container kind', 'container unique', 'container entry new', 'container entry replaced', 'nameend', 'entry', 'value', 'namebytes']
 
 
 def size(n):
@@ -48,6 +56,24 @@ def scalar(kind, words):
     return 'scalar', SCALARS.index(kind), operand
 
 
+def numbers(words):
+    return b''.join(int(word).to_bytes(8, 'big') for word in words)
+
+
+def poke(words):
+    """Which one, its place, and its numbers or bytes."""
+    what, place = words.pop(0), 0
+    if what not in POKES[:8]:
+        place = int(words.pop(0))
+    if what == 'container':
+        what += ' ' + words.pop(0)
+    if what == 'container entry':
+        what += ' ' + words.pop(0)
+    if what == 'container kind':
+        words = [words[0] == 'object']
+    return POKES.index(what), place, octets(words) if what in ('value', 'namebytes') else numbers(words)
+
+
 def call(line, answer):
     verb, *words = line.split()
     given, name, argument, operand, out = 0, b'', 0, b'', 0
@@ -63,10 +89,16 @@ def call(line, answer):
         argument = int(words[0])
     elif verb == 'finish':
         out = int(settings(words)['out'])
+    elif verb == 'poke':
+        argument, out, operand = poke(words)
     if answer.startswith('ok value='):
         expected = settings(answer.split()[1:])
         name, operand = octets(expected['dict']), octets(expected['value'])
-    number = 0 if answer.startswith('ok') else int(answer.removeprefix('refused '))
+    elif answer.startswith('dump '):
+        expected = settings(word for word in answer.split() if '=' in word)
+        name = numbers(expected[count] for count in COUNTS)
+        argument, operand = int('value' in expected), octets([expected.get('value', '')])
+    number = int(answer.removeprefix('refused ')) if answer.startswith('refused') else 0
     head = bytes([CALLS.index(verb), argument, number, given]) + size(out) + size(len(name)) + size(len(operand))
     return ','.join(field.hex() for field in (head, name, operand))
 
@@ -77,21 +109,38 @@ def start(line, calls):
     return (bytes([int(s['unique'])]) + b''.join(map(size, sizes))).hex()
 
 
-def main(root):
-    folder = os.path.join(root, 'crates', 'replay')
-    lines = [line.split('#')[0].strip() for line in open(os.path.join(folder, 'data', 'scripts.txt'))]
-    answers = open(os.path.join(folder, 'data', 'answers.txt')).read().splitlines()
-    scripts = []
+def scripts(folder, asked, answered):
+    """Each script's recoded lines."""
+    lines = [line.split('#')[0].strip() for line in open(os.path.join(folder, 'data', asked))]
+    answers = open(os.path.join(folder, 'data', answered)).read().splitlines()
+    parts = []
     for line, answer in zip(filter(None, lines), answers, strict=True):
         if answer == 'new':
-            scripts.append([line])
+            parts.append([line])
         else:
-            scripts[-1].append(call(line, answer))
+            parts[-1].append(call(line, answer))
+    return [[start(first, len(rest)), *rest] for first, *rest in parts]
+
+
+def answer_edges(folder, model, requests):
+    with open(os.path.join(folder, 'data', 'edges.txt')) as asked, open(os.path.join(folder, 'data', 'edges_answers.txt'), 'w') as out:
+        words = ['--with', requests] if requests else []
+        subprocess.run([sys.executable, os.path.join(model, 'model.py'), *words], stdin=asked, stdout=out, check=True)
+
+
+def main():
+    parser = argparse.ArgumentParser(description=__doc__, formatter_class=argparse.RawDescriptionHelpFormatter)
+    parser.add_argument('root', nargs='?', default='.', metavar='ROOT')
+    parser.add_argument('--answers', metavar='MODEL')
+    parser.add_argument('--with', dest='requests', metavar='SET')
+    args = parser.parse_args()
+    folder = os.path.join(args.root, 'crates', 'replay')
+    if args.answers:
+        answer_edges(folder, args.answers, args.requests)
+    both = scripts(folder, 'scripts.txt', 'answers.txt') + scripts(folder, 'edges.txt', 'edges_answers.txt')
     with open(os.path.join(folder, 'stdin'), 'w') as f:
-        print(size(len(scripts)).hex(), file=f)
-        for first, *rest in scripts:
-            print(start(first, len(rest)), *rest, sep='\n', file=f)
+        print(size(len(both)).hex(), *(line for lines in both for line in lines), sep='\n', file=f)
 
 
 if __name__ == '__main__':
-    main(sys.argv[1] if len(sys.argv) > 1 else '.')
+    main()

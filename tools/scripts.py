@@ -101,7 +101,7 @@ class Run:
     def __init__(self, model, rng, held, pool=None, wrong=0.02, unique=None, **settings):
         self.model, self.rng, self.held, self.wrong = model, rng, held, wrong
         self.pool = pool or rng.choice([MIXED, MIXED[:3], [rng.randbytes(2).hex().encode() for _ in range(8)]])
-        self.session, self.lines, self.calls, self.answers = model.Session(), [], [], []
+        self.session, self.lines, self.calls, self.answers = model.Session(model.on), [], [], []
         self.peak = dict.fromkeys(("value", "namebytes", "names", "entries", "out"), 0)
         unique = rng.random() < 0.2 if unique is None else unique
         fill = rng.choice(FILLS)

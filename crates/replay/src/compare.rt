@@ -1,4 +1,6 @@
 // What was expected against what came, and the counts.
+use crate::parse::word;
+use run::Counts;
 
 // The script at hand and its call, the calls and differences so far, and whether the input was not as it must be.
 pub struct Tally {
@@ -29,16 +31,46 @@ pub fn counted(t: Tally) -> Tally {
     }
 }
 
+// A line that is no call.
+pub fn passed(t: Tally) -> Tally {
+    Tally {
+        script: t.script,
+        call: more(t.call),
+        calls: t.calls,
+        differences: t.differences,
+        malformed: false,
+    }
+}
+
 // A number: 0 for a call carried out, or the refusal's.
 pub fn answered(t: Tally, expected: u8, got: u8) -> Tally {
+    number(t, b"number", expected as usize, got as usize)
+}
+
+// The five used counts, each expected in eight bytes.
+pub fn used(t: Tally, c: Counts, expected: &[u8]) -> Tally {
+    let m = c.dictionary;
+    let a = number(t, b"used value bytes", expect(expected, 0), c.value);
+    let b = number(a, b"used names", expect(expected, 8), m.names);
+    let d = number(b, b"used name bytes", expect(expected, 16), m.text);
+    let e = number(d, b"used entries", expect(expected, 24), c.entries);
+    number(e, b"open containers", expect(expected, 32), c.depth)
+}
+
+fn expect(bytes: &[u8], from: u8) -> usize {
+    word(bytes, from) as usize
+}
+
+fn number(t: Tally, what: &[u8], expected: usize, got: usize) -> Tally {
     if expected == got {
         return t;
     }
     place(t);
-    show::text(b"expected ");
-    show::number(expected as usize);
+    show::text(what);
+    show::text(b" expected ");
+    show::number(expected);
     show::text(b", got ");
-    show::number(got as usize);
+    show::number(got);
     show::text(b"\n");
     different(t)
 }

@@ -11,8 +11,8 @@ pub struct Start {
     pub entries: usize,
 }
 
-// A call's first field: the call, its argument, the number expected, whether a name is given, the size of the output, and the
-// sizes of the name and the operand, which are the next two fields.
+// A line's first field: the call, its argument, the number expected, whether a name is given, the size of the output or the place
+// that is altered, and the sizes of the name and the operand, which are the next two fields.
 pub struct Header {
     pub call: u8,
     pub argument: u8,
@@ -46,11 +46,11 @@ pub fn read_start() -> Start {
     }
 }
 
-// Where a byte is missing or there is no such call, too large an operand.
+// Where a byte is missing, there is no such call or too large an output is asked for, too large an operand.
 pub fn read_header() -> Header {
     let mut b = [0u8; 10];
     let whole = field(&mut b, 10);
-    if !whole | (b[0] == 0) | (10 < b[0]) {
+    if !whole | (b[0] == 0) | (12 < b[0]) | (4 < b[4]) {
         b[8] = 255;
     }
     Header {
@@ -68,8 +68,16 @@ fn two(high: u8, low: u8) -> usize {
     high as usize * 256 + low as usize
 }
 
+// A line's second and third fields: are they there?
+pub fn fields(name: &mut [u8], operand: &mut [u8], h: Header) -> bool {
+    if field(name, h.name) {
+        return field(operand, h.operand);
+    }
+    false
+}
+
 // The next n bytes, into `out`: are they there, with a comma or a line end behind them?
-pub fn field(out: &mut [u8], n: usize) -> bool {
+fn field(out: &mut [u8], n: usize) -> bool {
     let mut i = 0;
     while i < n {
         let b = byte();

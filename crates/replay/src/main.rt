@@ -1,26 +1,33 @@
-// A sample of scripts with the answers that the real Rust gave to them, run by the calls by value: a line for each difference,
-// and the counts. Standard input is the sample as tools/replay.py writes it; that script says what its bytes are.
+// Scripts with their answers, run by the thin calls, which make the calls by value: a line for each difference, and the counts. Two
+// sets: a sample with the answers that the real Rust gave, and edges with those of a model of document 01 written apart from this
+// code, some over a record or storage altered between the calls. Standard input is both as tools/replay.py writes them; that script
+// says what its bytes are.
 // Each script is lent as much storage as it names, of one storage for all of them, which is not blank and never cleared.
-mod calls;
 mod compare;
 mod input;
+mod parse;
+mod poke;
 
-use builder::FinishAnswer;
-use builder::finish;
 use builder::new;
-use calls::call;
-use calls::number;
+use calls::lend;
 use compare::Tally;
 use compare::answered;
 use compare::compared;
 use compare::counted;
 use compare::malformed;
+use compare::passed;
 use compare::started;
+use compare::used;
+use encoding::slices::least;
 use input::Header;
-use input::field;
+use input::fields;
 use input::read_count;
 use input::read_header;
 use input::read_start;
+use parse::call_of;
+use parse::uuid;
+use poke::altered;
+use poke::overwrite;
 use run::Builder;
 
 struct Replay {
@@ -76,20 +83,11 @@ fn script(
         return t;
     }
     let s = read_start();
-    let v = s.value;
-    let x = s.text;
-    let k = s.ends;
-    let e = s.entries;
-    if value.len() < v {
-        return malformed(t);
-    }
-    if text.len() < x {
-        return malformed(t);
-    }
-    if ends.len() < k {
-        return malformed(t);
-    }
-    if entries.len() < e {
+    let v = least(s.value, value.len());
+    let x = least(s.text, text.len());
+    let k = least(s.ends, ends.len());
+    let e = least(s.entries, entries.len());
+    if (v < s.value) | (x < s.text) | (k < s.ends) | (e < s.entries) {
         return malformed(t);
     }
     run(
@@ -124,7 +122,7 @@ fn run(
     r.tally
 }
 
-// The next call.
+// The next line.
 fn next(
     r: Replay,
     value: &mut [u8],
@@ -138,26 +136,14 @@ fn next(
     let mut name = [0u8; 512];
     let mut operand = [0u8; 2048];
     let h = read_header();
-    let n = h.name;
-    let m = h.operand;
-    if 512 < n {
+    if !fields(&mut name, &mut operand, h) {
         return stopped(r);
     }
-    if 2048 < m {
-        return stopped(r);
-    }
-    if !field(&mut name, n) {
-        return stopped(r);
-    }
-    if !field(&mut operand, m) {
-        return stopped(r);
-    }
+    let n = least(h.name, 512);
+    let m = least(h.operand, 2048);
     let name = &name[0..n];
     let operand = &operand[0..m];
-    if h.call == 10 {
-        return finished(r, value, text, ends, entries, h, name, operand);
-    }
-    called(r, value, text, ends, entries, h, name, operand)
+    done(r, value, text, ends, entries, h, name, operand)
 }
 
 fn stopped(r: Replay) -> Replay {
@@ -165,6 +151,53 @@ fn stopped(r: Replay) -> Replay {
     Replay {
         builder: b,
         tally: malformed(r.tally),
+    }
+}
+
+// A poke, a look at the record, or a call.
+fn done(
+    r: Replay,
+    value: &mut [u8],
+    text: &mut [u8],
+    ends: &mut [usize],
+    entries: &mut [usize],
+    h: Header,
+    name: &[u8],
+    operand: &[u8],
+) -> Replay {
+    let c = h.call;
+    match c {
+        11 => {
+            overwrite(value, text, ends, entries, h, operand);
+            poked(r, h, operand)
+        }
+        12 => looked(r, value, h, name, operand),
+        _ => called(r, value, text, ends, entries, h, name, operand),
+    }
+}
+
+fn poked(r: Replay, h: Header, operand: &[u8]) -> Replay {
+    Replay {
+        builder: altered(r.builder, h, operand),
+        tally: passed(r.tally),
+    }
+}
+
+// The expected counts stand in the name's place, and the expected value in the operand's.
+fn looked(r: Replay, value: &[u8], h: Header, counts: &[u8], expected: &[u8]) -> Replay {
+    let b = r.builder;
+    let c = b.counts;
+    let n = c.value;
+    let t = used(passed(r.tally), c, counts);
+    if h.argument == 0 {
+        return Replay {
+            builder: b,
+            tally: t,
+        };
+    }
+    Replay {
+        builder: b,
+        tally: compared(t, b"value", value, n, expected),
     }
 }
 
@@ -178,50 +211,48 @@ fn called(
     name: &[u8],
     operand: &[u8],
 ) -> Replay {
-    let d = call(r.builder, value, text, ends, entries, h, name, operand);
-    let a = d.answer;
+    let mut space = [0xEEu8; 1024];
+    let size = least(h.size, 1024);
+    let call = call_of(h, operand);
+    let id = uuid(operand);
+    let out = &mut space[0..size];
+    let d = lend(
+        r.builder,
+        call,
+        value,
+        text,
+        ends,
+        entries,
+        h.named,
+        name,
+        operand,
+        id,
+        out,
+    );
     let b = d.builder;
-    let t = counted(r.tally);
+    let n = b.counts.value;
+    let t = answered(counted(r.tally), h.number, d.number);
+    let u = finished(t, h, value, n, out, d.written, name, operand);
     Replay {
         builder: b,
-        tally: answered(t, h.number, number(a)),
+        tally: u,
     }
 }
 
-// The expected dictionary stands in the name's place, and the expected value in the operand's.
+// Of a finish that must be carried out, the expected dictionary stands in the name's place, and the expected value in the operand's.
 fn finished(
-    r: Replay,
-    value: &[u8],
-    text: &[u8],
-    ends: &[usize],
-    entries: &[usize],
+    t: Tally,
     h: Header,
+    value: &[u8],
+    n: usize,
+    out: &[u8],
+    written: usize,
     dictionary: &[u8],
     expected: &[u8],
-) -> Replay {
-    let mut space = [0xEEu8; 1024];
-    let size = h.size;
-    if 1024 < size {
-        return stopped(r);
+) -> Tally {
+    if (h.call != 10) | (h.number != 0) {
+        return t;
     }
-    let out = &mut space[0..size];
-    let d = finish(r.builder, value, text, ends, entries, out);
-    let a = d.answer;
-    let b = d.builder;
-    let used = b.counts.value;
-    let t = counted(r.tally);
-    match a {
-        FinishAnswer::Written(n) => {
-            let u = answered(t, h.number, 0);
-            let w = compared(u, b"value", value, used, expected);
-            Replay {
-                builder: b,
-                tally: compared(w, b"dictionary", out, n, dictionary),
-            }
-        }
-        FinishAnswer::Refused(number) => Replay {
-            builder: b,
-            tally: answered(t, h.number, number),
-        },
-    }
+    let u = compared(t, b"value", value, n, expected);
+    compared(u, b"dictionary", out, written, dictionary)
 }

@@ -1,25 +1,26 @@
--- Sixteen turns.
+-- Eight turns.
 use borrow.Author.Needs.{needs}
 use native.Mathlib.Omega.{arith}
 use Prim.Native.Nat.{_≤_, _-_}
-use Rattle.replay.proofs.calls.uuid.Statement.{statement}
-use Rattle.replay.proofs.calls.uuid.Tie as tie
+use Rattle.replay.proofs.parse.word.Statement.{statement}
+use Rattle.replay.proofs.parse.word.Tie as tie
 
 abbrev Inv-loop : tie.InvT-loop
-Inv-loop operand u₀ i₀ u i = i ≤ 16
+Inv-loop operand from n₀ i₀ n i = i ≤ 8
 
 abbrev μ-loop : tie.MeasureT-loop
-μ-loop operand u₀ i₀ u i = 16 - i
+μ-loop operand from n₀ i₀ n i = 8 - i
 
-pub uuid-spec : {M : Type 1} → statement M
-uuid-spec =
+pub word-spec : {M : Type 1} → statement M
+word-spec =
     tie.close
     (tie.spec
     Inv-loop
     μ-loop
     (λ c. omega arith)
-    (λ c κs. search needs)
     (λ c. search needs)
+    (λ c κs. search needs)
+    (λ c κs. search needs)
     (λ c. omega arith)
     (λ c. omega arith)
     (λ c. omega arith)

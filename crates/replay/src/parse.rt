@@ -1,79 +1,26 @@
 // One line's call.
 use crate::input::Header;
-use builder::Answer;
-use builder::Called;
-use builder::add_field_name;
-use builder::append_bytes;
-use builder::append_uuid;
-use builder::append_value;
-use builder::close;
-use builder::new_list;
-use builder::new_object;
-use builder::rollback;
-use builder::with_validate_unique_fields;
-use run::Builder;
+use calls::Call;
 use value::decimal::VariantDecimal4;
 use value::decimal::VariantDecimal8;
 use value::decimal::VariantDecimal16;
 use value::variant::Variant;
 use value::variant::VariantBytes;
 
-pub fn call(
-    b: Builder,
-    value: &mut [u8],
-    text: &mut [u8],
-    ends: &mut [usize],
-    entries: &mut [usize],
-    h: Header,
-    name: &[u8],
-    operand: &[u8],
-) -> Called {
+pub fn call_of(h: Header, operand: &[u8]) -> Call {
     let c = h.call;
-    let on = h.argument == 1;
+    let argument = h.argument;
     match c {
-        1 => add_field_name(b, value, text, ends, entries, name),
-        2 => new_list(b, value, text, ends, entries, h.named, name),
-        3 => new_object(b, value, text, ends, entries, h.named, name),
-        4 => close(b, value, text, ends, entries),
-        5 => rollback(b, value, text, ends, entries),
-        6 => with_validate_unique_fields(b, value, text, ends, entries, on),
-        _ => append(b, value, text, ends, entries, h, name, operand),
-    }
-}
-
-fn append(
-    b: Builder,
-    value: &mut [u8],
-    text: &mut [u8],
-    ends: &mut [usize],
-    entries: &mut [usize],
-    h: Header,
-    name: &[u8],
-    operand: &[u8],
-) -> Called {
-    let c = h.call;
-    let given = h.named;
-    let code = h.argument;
-    match c {
-        7 => {
-            let kind = kind(code);
-            append_bytes(b, value, text, ends, entries, given, name, kind, operand)
-        }
-        8 => {
-            let uuid = uuid(operand);
-            append_uuid(b, value, text, ends, entries, given, name, uuid)
-        }
-        _ => {
-            let x = scalar(code, operand);
-            append_value(b, value, text, ends, entries, given, name, x)
-        }
-    }
-}
-
-pub fn number(a: Answer) -> u8 {
-    match a {
-        Answer::Done => 0,
-        Answer::Refused(n) => n,
+        1 => Call::AddFieldName,
+        2 => Call::NewList,
+        3 => Call::NewObject,
+        4 => Call::Close,
+        5 => Call::Rollback,
+        6 => Call::WithValidateUniqueFields(argument == 1),
+        7 => Call::AppendBytes(kind(argument)),
+        8 => Call::AppendUuid,
+        9 => Call::AppendValue(scalar(argument, operand)),
+        _ => Call::Finish,
     }
 }
 
@@ -86,7 +33,7 @@ fn kind(code: u8) -> VariantBytes {
     }
 }
 
-fn uuid(operand: &[u8]) -> [u8; 16] {
+pub fn uuid(operand: &[u8]) -> [u8; 16] {
     let mut u = [0u8; 16];
     let mut i = 0;
     while i < 16 {
@@ -141,7 +88,7 @@ fn decimal(code: u8, high: i64, low: u64, scale: u8) -> Variant {
 }
 
 // Eight bytes, highest first.
-fn word(operand: &[u8], from: u8) -> u64 {
+pub fn word(operand: &[u8], from: u8) -> u64 {
     let mut n = 0;
     let mut i = 0;
     while i < 8 {

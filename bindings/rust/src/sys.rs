@@ -54,6 +54,7 @@ extern "C" {
         scale: u8,
     ) -> u8;
 
+    /// Of kind 0, binary; 1, String; 2, short text; 3, plain text. Any other kind is refused with 7, as an unknown code is.
     pub fn variant_append_bytes(
         words: Words,
         value: *mut u8, value_len: usize,

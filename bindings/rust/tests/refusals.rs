@@ -1,5 +1,5 @@
 //! Each number of document 01's table by a short run; a refused call leaves words, storage and output as they were.
-use variant_writer::{Refusal, Variant, VariantBuilder};
+use variant_writer::{sys, Refusal, Variant, VariantBuilder, WORDS};
 
 /// The call is refused with that number and changes nothing.
 fn refused(number: u8, b: &mut VariantBuilder, call: impl FnOnce(&mut VariantBuilder) -> Result<(), Refusal>) {
@@ -144,4 +144,29 @@ fn numbers_and_refusals() {
     for number in 0..=255 {
         assert_eq!(Refusal::of(number).map(Refusal::number), (1..=16).contains(&number).then_some(number));
     }
+}
+
+/// The word call's kinds of bytes: those above 3 are refused with 7, where no earlier row holds, and change nothing.
+#[test]
+fn kinds_of_bytes() {
+    let mut words = [0; WORDS];
+    let (mut value, mut text, mut ends, mut entries) = ([9u8; 8], [9u8; 8], [9usize; 2], [9usize; 4]);
+    let mut append = |words: &mut [usize; WORDS], kind| unsafe {
+        // SAFETY: each pointer is a borrow's, with its length
+        sys::variant_append_bytes(
+            words,
+            value.as_mut_ptr(), value.len(), text.as_mut_ptr(), text.len(),
+            ends.as_mut_ptr(), ends.len(), entries.as_mut_ptr(), entries.len(),
+            false, [].as_ptr(), 0, kind, b"hi".as_ptr(), 2,
+        )
+    };
+    for kind in 0..=u8::MAX {
+        unsafe { sys::variant_new(&mut words, false) };
+        let before = words;
+        let answer = append(&mut words, kind);
+        assert_eq!(answer, if kind < 4 { 0 } else { 7 }, "kind {kind}");
+        assert!(kind < 4 || words == before);
+    }
+    words[7] = 1;
+    assert_eq!(append(&mut words, 4), 2);
 }

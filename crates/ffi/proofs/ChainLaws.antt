@@ -12,12 +12,12 @@ use Rattle.run.specs.Step.{step}
 use Rattle.run.specs.Run.{isFinish, Made, aCall, aFinish}
 use Rattle.ffi.specs.Words.{stateOf, DoesWords, FinishesWords}
 
-module _ {ws us : List ℕ} {l after : Storage} {n : ℕ} {u : State} {cs : List Call} {d : List ℕ} where
-  pub words-call : {c : Call} → isFinish c ≡ false → DoesWords n ws us after (step (stateOf ws l) c) → Made (stateOf us after) cs u d → Made (stateOf ws l) (c ∷ cs) u d
+module _ {ws us : List ℕ} {l : Storage} {n : ℕ} {u : State} {cs : List Call} {d : List ℕ} where
+  pub words-call : {after : Storage} {c : Call} → isFinish c ≡ false → DoesWords n ws us l after c → Made (stateOf us after) cs u d → Made (stateOf ws l) (c ∷ cs) u d
   words-call f h m = aCall f (λ i. record { builder = h .builder i; storage = h .storage i }) m
 
   -- was, w: the bytes written, before and then
-  pub words-finish : {out left : List ℕ} {was w : ℕ} → FinishesWords n ws us after left was w (step (stateOf ws l) (finish out)) → Made (stateOf us after) cs u d
+  pub words-finish : {out left : List ℕ} {was w : ℕ} → FinishesWords n ws us l out left was w → Made (stateOf us l) cs u d
       → Made (stateOf ws l) (finish out ∷ cs) u (cond (eqb n 0) (take w left) d)
   words-finish {out} {left} {was} h m =
       rw (h .length, same (eqb n 0) (step (stateOf ws l) (finish out) .written)) (aFinish (h .does .number) (λ i. record { builder = h .does .builder i; storage = h .does .storage i }) (h .output) refl m)

@@ -11,7 +11,7 @@ use Rattle.run.specs.declared.Counts.{Counts}
 use Rattle.run.specs.declared.ParentEntry.{ParentEntry}
 use Rattle.run.specs.declared.ParentEntry.the-variants.{New, Replaced}
 use Rattle.run.specs.Record.{noContainer, containerAt}
-use Rattle.ffi.specs.Words.{wordAt, flag, countsOf, parentEntryOf, containerFrom, containerOf, containersFrom, containersOf, builderOf, wordOf, tagOf, idOf, offsetOf}
+use Rattle.ffi.specs.Words.{wordAt, flag, countsOf, parentEntryOf, containerFrom, containerOf, containersFrom, containersOf, builderOf, wordOf, tagOf, idOf, offsetOf, countsPut, containerPut, PutsCounts, PutsContainer}
 
 -- ---- the containers by their places
 
@@ -62,10 +62,6 @@ flag-word false = refl
 
 -- ---- the counts written
 
--- eight words written from place 0 on
-abbrev countsPut : List ℕ → Counts → List ℕ
-countsPut ws c = set (set (set (set (set (set (set (set ws 0 (c .value)) 1 (c .entries)) 2 (c .depth)) 3 (c .dictionary .names)) 4 (c .dictionary .text)) 5 (wordOf (c .dictionary .sorted))) 6 (wordOf (c .unique))) 7 (wordOf (c .finished))
-
 counts-read : (ws : List ℕ) (c : Counts) → 8 ≤ length ws → countsOf (countsPut ws c) ≡ c
 unfolding countsOf
 counts-read [] c h = absurd (omega arith)
@@ -97,16 +93,13 @@ from-words ws us p h =
     rw (h p (omega arith) (omega arith), h (p + 1) (omega arith) (omega arith), h (p + 2) (omega arith) (omega arith), h (p + 3) (omega arith) (omega arith), h (p + 4) (omega arith) (omega arith), h (p + 5) (omega arith) (omega arith), h (p + 6) (omega arith) (omega arith), h (p + 7) (omega arith) (omega arith), h (p + 8) (omega arith) (omega arith))
 
 -- the words with other counts mean the same containers with those counts
-pub put-counts : (ws : List ℕ) (c : Counts) → 8 ≤ length ws → builderOf (countsPut ws c) ≡ record { containers = containersOf ws; counts = c }
+pub put-counts : (ws : List ℕ) (c : Counts) → 8 ≤ length ws → PutsCounts ws (countsPut ws c) c
 unfolding containersOf
 put-counts ws c h =
-    rw (counts-read ws c h, from-same ws (countsPut ws c) 64 0 (λ m g. from-words ws (countsPut ws c) (8 + 9 * m) (λ j a b. counts-other ws c j (omega arith))))
+    let same = from-same ws (countsPut ws c) 64 0 (λ m g. from-words ws (countsPut ws c) (8 + 9 * m) (λ j a b. counts-other ws c j (omega arith))) in
+    record { words = refl; builder = rw (counts-read ws c h, same) }
 
 -- ---- a container written
-
--- nine words written from place p on
-abbrev containerPut : List ℕ → ℕ → Container → List ℕ
-containerPut ws p k = set (set (set (set (set (set (set (set (set ws p (k .value)) (p + 1) (k .names)) (p + 2) (k .text)) (p + 3) (k .entries)) (p + 4) (tagOf (k .parent))) (p + 5) (idOf (k .parent))) (p + 6) (offsetOf (k .parent))) (p + 7) (wordOf (k .object))) (p + 8) (wordOf (k .unique))
 
 parent-read : (e : ParentEntry) → parentEntryOf (tagOf e) (idOf e) (offsetOf e) ≡ e
 unfolding parentEntryOf
@@ -162,14 +155,12 @@ container-counts ws p k h =
 
 -- the words with another container at depth d mean the builder with that container
 pub put-container : (ws : List ℕ) (d : ℕ) (k : Container) → length ws ≡ 584 → d < 64
-    → builderOf (containerPut ws (8 + 9 * d) k) ≡ record { containers = set (containersOf ws) d k; counts = countsOf ws }
+    → PutsContainer ws (containerPut ws (8 + 9 * d) k) d k
 unfolding containersOf
 put-container ws d k e h =
     let p = 8 + 9 * d in
     let us = containerPut ws p k in
-    rw (
-      container-counts ws p k (omega arith),
-      from-set ws us k 64 0 d d (omega arith) (container-read ws p k (omega arith))
-          (λ m g. from-words ws us (8 + 9 * m) (λ j a b. container-below ws p k j (omega arith)))
-          (λ m g. from-words ws us (8 + 9 * m) (λ j a b. container-above ws p k j (omega arith))),
-    )
+    let put = from-set ws us k 64 0 d d (omega arith) (container-read ws p k (omega arith))
+    (λ m g. from-words ws us (8 + 9 * m) (λ j a b. container-below ws p k j (omega arith)))
+    (λ m g. from-words ws us (8 + 9 * m) (λ j a b. container-above ws p k j (omega arith))) in
+    record { words = refl; builder = rw (container-counts ws p k (omega arith), put) }

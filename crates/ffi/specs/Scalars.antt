@@ -1,6 +1,7 @@
--- A scalar of fixed size as numbers: the code of its type, a signed number z, an unsigned number low and a scale. Any numbers are
--- a scalar: those of no type, or outside its type, are one that number 7 refuses.
+-- A scalar as numbers: of fixed size the code of its type, a signed number z, an unsigned number low and a scale; bytes with the code of
+-- their kind. Any numbers are a scalar: those of no type or kind, or outside its type, are one that number 7 refuses.
 use mathlib.Core.Bool.{cond}
+use mathlib.Core.List.{List}
 use Prim.Native.Nat.{ℕ}
 use lib.Dec.{eqb, ltb}
 use lib.IntN.{ℤ, pos}
@@ -9,6 +10,7 @@ use Rattle.value.specs.declared.variant.VariantBytes.{VariantBytes}
 use Rattle.value.specs.declared.variant.VariantBytes.the-variants as kinds
 use Rattle.value.specs.declared.variant.Variant.{Variant}
 use Rattle.value.specs.declared.variant.Variant.the-variants.{Null, Int8, Int16, Int32, Int64, Date, TimestampMicros, TimestampNtzMicros, TimestampNanos, TimestampNtzNanos, Decimal4, Decimal8, Decimal16, Float, Double, BooleanTrue, BooleanFalse, Time}
+use Rattle.run.specs.Record.{Scalars, fixed, bytes}
 
 -- a time past the end of the day, which number 7 refuses
 abbrev pub noScalar : Variant
@@ -41,6 +43,9 @@ variantOf code z low scale =
     (cond (eqb code 18) (TimestampNanos z)
     (cond (eqb code 19) (TimestampNtzNanos z) noScalar)))))))))))))))))
 
--- a kind of bytes by its code: 0 is binary, 1 String, 2 short text; any other is plain text
+-- bytes by the code of their kind: 0 is binary, 1 String, 2 short text, 3 plain text; those of any other are no scalar
 unfoldable pub kindOf : ℕ → VariantBytes
 kindOf k = cond (eqb k 0) kinds.Binary (cond (eqb k 1) kinds.String (cond (eqb k 2) kinds.ShortString kinds.Text))
+
+unfoldable pub bytesBy : ℕ → List ℕ → Scalars
+bytesBy k bs = cond (ltb 3 k) (fixed noScalar) (bytes (kindOf k) bs)

@@ -2,9 +2,9 @@
 use mathlib.Core.Path.{_≡_}
 use mathlib.Core.Bool.{Bool, false, cond, not}
 use mathlib.Core.List.{List, [], _∷_}
-use Prim.Native.Nat.{ℕ, zero, suc, _+_, _*_}
+use Prim.Native.Nat.{ℕ, zero, suc, _+_, _-_, _*_}
 use lib.Dec.{eqb}
-use lib.ListN.{getD}
+use lib.ListN.{getD, set}
 use Rattle.encoding.specs.Rows.{first}
 use Rattle.metadata.specs.Calls.{fresh}
 use Rattle.run.specs.declared.Builder.{Builder}
@@ -12,8 +12,8 @@ use Rattle.run.specs.declared.Container.{Container}
 use Rattle.run.specs.declared.Counts.{Counts}
 use Rattle.run.specs.declared.ParentEntry.{ParentEntry}
 use Rattle.run.specs.declared.ParentEntry.the-variants.{New, Replaced}
-use Rattle.run.specs.Record.{Storage, State, viewOf}
-use Rattle.run.specs.Step.{Outcome}
+use Rattle.run.specs.Record.{Storage, State, Call, register, append, openIn, close, rollBack, uniqueness, finish, containerAt, viewOf}
+use Rattle.run.specs.Step.{step}
 use mathlib.Core.Option.{Option}
 use Rattle.metadata.specs.Names.{Name}
 use Rattle.table.specs.Decide.{enterRows}
@@ -76,24 +76,7 @@ builderOf ws = record { containers = containersOf ws; counts = countsOf ws }
 abbrev pub stateOf : List ℕ → Storage → State
 stateOf ws l = record { builder = builderOf ws; storage = l }
 
--- a call's answer n, the words and the storage at exit are those of the step; a refused call leaves the words themselves
-pub record DoesWords (n : ℕ) (before after : List ℕ) (l : Storage) (o : Outcome) : Type 0 where
-  pub number : n ≡ o .number
-  pub builder : builderOf after ≡ o .state .builder
-  pub storage : l ≡ o .state .storage
-  pub kept : (n ≡ 0 → ⊥) → after ≡ before
-
--- finish: its output at exit too, and the bytes written, which a refused one leaves as they were
-pub record FinishesWords (n : ℕ) (before after : List ℕ) (l : Storage) (out : List ℕ) (writtenBefore written : ℕ) (o : Outcome) : Type 0 where
-  pub does : DoesWords n before after l o
-  pub output : out ≡ o .output
-  pub length : written ≡ cond (eqb n 0) (o .written) writtenBefore
-
--- the counts of a fresh builder; its containers, which are left free, are what the words hold
-abbrev pub freshCounts : Bool → Counts
-freshCounts u = record { value = 0; entries = 0; depth = 0; dictionary = fresh; unique = u; finished = false }
-
--- ---- For the code.
+-- ---- the words as they are written
 
 -- a flag's word
 abbrev pub wordOf : Bool → ℕ
@@ -112,14 +95,87 @@ abbrev pub offsetOf : ParentEntry → ℕ
 offsetOf New = 0
 offsetOf (Replaced id offset) = offset
 
+-- words 0 to 7
+abbrev pub countsPut : List ℕ → Counts → List ℕ
+countsPut ws c =
+    set
+    (set
+    (set (set (set (set (set (set ws 0 (c .value)) 1 (c .entries)) 2 (c .depth)) 3 (c .dictionary .names)) 4 (c .dictionary .text)) 5 (wordOf (c .dictionary .sorted))) 6
+    (wordOf (c .unique)))
+    7
+    (wordOf (c .finished))
+
+-- nine words from place p on
+abbrev pub containerPut : List ℕ → ℕ → Container → List ℕ
+containerPut ws p k =
+    set
+    (set
+    (set
+    (set
+    (set (set (set (set (set ws p (k .value)) (p + 1) (k .names)) (p + 2) (k .text)) (p + 3) (k .entries)) (p + 4) (tagOf (k .parent))) (p + 5)
+    (idOf (k .parent)))
+    (p + 6)
+    (offsetOf (k .parent)))
+    (p + 7)
+    (wordOf (k .object)))
+    (p + 8)
+    (wordOf (k .unique))
+
+-- the container at depth d put, as it stands in a builder
+abbrev pub containerLeft : List ℕ → ℕ → Builder → List ℕ
+containerLeft ws d b = containerPut ws (8 + 9 * d) (containerAt (b .containers) d)
+
+-- the words that a call leaves which is carried out, and b then: the counts', and those of the container that it opens or marks. All
+-- other words are as they were.
+abbrev pub wordsLeft : List ℕ → Call → Builder → List ℕ
+wordsLeft ws (register n) b = countsPut ws (b .counts)
+wordsLeft ws (append nm x) b = countsPut ws (b .counts)
+wordsLeft ws (openIn nm k) b = containerLeft (countsPut ws (b .counts)) (countsOf ws .depth) b
+wordsLeft ws close b = countsPut ws (b .counts)
+wordsLeft ws rollBack b = countsPut ws (b .counts)
+wordsLeft ws (uniqueness u) b = containerLeft ws (countsOf ws .depth - 1) b
+wordsLeft ws (finish out) b = countsPut ws (b .counts)
+
+-- ---- what a word call answers and leaves behind
+
+-- of the words before and the storage l: its answer n, the words after, what they mean and the storage at exit are those of the step; a
+-- refused call leaves the words themselves
+pub record DoesWords (n : ℕ) (before after : List ℕ) (l exit : Storage) (c : Call) : Type 0 where
+  pub number : n ≡ step (stateOf before l) c .number
+  pub builder : builderOf after ≡ step (stateOf before l) c .state .builder
+  pub storage : exit ≡ step (stateOf before l) c .state .storage
+  pub words : after ≡ cond (eqb n 0) (wordsLeft before c (step (stateOf before l) c .state .builder)) before
+
+-- finish: its output at exit too, and the bytes written, which a refused one leaves as they were
+pub record FinishesWords (n : ℕ) (before after : List ℕ) (l : Storage) (lent out : List ℕ) (writtenBefore written : ℕ) : Type 0 where
+  pub does : DoesWords n before after l l (finish lent)
+  pub output : out ≡ step (stateOf before l) (finish lent) .output
+  pub length : written ≡ cond (eqb n 0) (step (stateOf before l) (finish lent) .written) writtenBefore
+
+-- the counts put, and what the words mean then
+pub record PutsCounts (before after : List ℕ) (c : Counts) : Type 0 where
+  pub words : after ≡ countsPut before c
+  pub builder : builderOf after ≡ record { containers = containersOf before; counts = c }
+
+-- the counts of a fresh builder; its containers, which are left free, are what the words hold
+abbrev pub freshCounts : Bool → Counts
+freshCounts u = record { value = 0; entries = 0; depth = 0; dictionary = fresh; unique = u; finished = false }
+
+-- ---- For the code.
+
+-- a container put
+pub record PutsContainer (before after : List ℕ) (d : ℕ) (k : Container) : Type 0 where
+  pub words : after ≡ containerPut before (8 + 9 * d) k
+  pub builder : builderOf after ≡ record { containers = set (containersOf before) d k; counts = countsOf before }
+
 -- a piece's number and counts put back: the counts only where the number is 0
 pub record Puts (r : Moved) (n : ℕ) (before after : List ℕ) : Type 0 where
   pub number : n ≡ r .number
-  pub counts : r .number ≡ 0 → builderOf after ≡ record { containers = containersOf before; counts = r .counts }
+  pub put : r .number ≡ 0 → PutsCounts before after (r .counts)
   pub kept : (r .number ≡ 0 → ⊥) → after ≡ before
 
 -- what a register, an append or an open enters, and the words then
 pub record EntersWords (before after : List ℕ) (l : Storage) (nm : Option Name) (into opens : Bool) (own size : ℕ) (r : Entered) (text ends : List ℕ) : Type 0 where
   pub enters : EntersBy (viewOf (builderOf before)) l nm opens size (first (enterRows (viewOf (builderOf before)) l nm into opens own size)) r text ends
-  pub counts : r .number ≡ 0 → builderOf after ≡ record { containers = containersOf before; counts = r .counts }
+  pub put : r .number ≡ 0 → PutsCounts before after (r .counts)
   pub kept : (r .number ≡ 0 → ⊥) → after ≡ before

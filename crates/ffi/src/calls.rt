@@ -32,16 +32,15 @@ use value::variant::out_of_range;
 ghost use mathlib.Core.Path.{_≡_};
 ghost use mathlib.Core.Bool.{false, true};
 ghost use lib.ListN.{length};
-ghost use Rattle.run.specs.Record.{append as appendOf, bytes as bytesOf, close as closeOf, finish as finishOf, fixed, openIn, register as registerOf, rollBack, uniqueness, uuid as uuidOf, storageOf};
-ghost use Rattle.run.specs.Step.{step};
+ghost use Rattle.run.specs.Record.{append as appendOf, close as closeOf, finish as finishOf, fixed, openIn, register as registerOf, rollBack, uniqueness, uuid as uuidOf, storageOf};
 ghost use Rattle.table.specs.Decide.{nameOf};
-ghost use Rattle.ffi.specs.Scalars.{kindOf, variantOf};
-ghost use Rattle.ffi.specs.Words.{DoesWords, EntersWords, FinishesWords, builderOf, containersOf, freshCounts, stateOf};
+ghost use Rattle.ffi.specs.Scalars.{bytesBy, variantOf};
+ghost use Rattle.ffi.specs.Words.{DoesWords, EntersWords, FinishesWords, PutsCounts, freshCounts};
 
 // A fresh builder; children inherit the uniqueness mark. It sets the counts alone.
 #[no_mangle]
 pub extern "C" fn variant_new(words: &mut [usize; WORDS], unique: bool)
-    ensures { λ _. ⌜ builderOf (now (words .exit)) ≡ record { containers = containersOf (now (words .entry)); counts = freshCounts unique } ⌝ }
+    ensures { λ _. ⌜ PutsCounts (now (words .entry)) (now (words .exit)) (freshCounts unique) ⌝ }
 {
     let m = metadata::new();
     let c = Counts {
@@ -65,7 +64,7 @@ pub extern "C" fn variant_add_field_name(
     entries: &[usize],
     name: &[u8],
 ) -> u8
-    ensures { λ r. ⌜ DoesWords r (now (words .entry)) (now (words .exit)) (storageOf (now (value .entry)) (now (text .exit)) (now (ends .exit)) (now (entries .entry))) (step (stateOf (now (words .entry)) (storageOf (now (value .entry)) (now (text .entry)) (now (ends .entry)) (now (entries .entry)))) (registerOf (now (name .entry)))) ⌝ }
+    ensures { λ r. ⌜ DoesWords r (now (words .entry)) (now (words .exit)) (storageOf (now (value .entry)) (now (text .entry)) (now (ends .entry)) (now (entries .entry))) (storageOf (now (value .entry)) (now (text .exit)) (now (ends .exit)) (now (entries .entry))) (registerOf (now (name .entry))) ⌝ }
 {
     let e = enter(
         words,
@@ -92,7 +91,7 @@ pub extern "C" fn variant_close(
     ends: &[usize],
     entries: &mut [usize],
 ) -> u8
-    ensures { λ r. ⌜ DoesWords r (now (words .entry)) (now (words .exit)) (storageOf (now (value .exit)) (now (text .entry)) (now (ends .entry)) (now (entries .exit))) (step (stateOf (now (words .entry)) (storageOf (now (value .entry)) (now (text .entry)) (now (ends .entry)) (now (entries .entry)))) closeOf) ⌝ }
+    ensures { λ r. ⌜ DoesWords r (now (words .entry)) (now (words .exit)) (storageOf (now (value .entry)) (now (text .entry)) (now (ends .entry)) (now (entries .entry))) (storageOf (now (value .exit)) (now (text .entry)) (now (ends .entry)) (now (entries .exit))) closeOf ⌝ }
 {
     let v = view_of(words);
     let r = close_over(v, value, text, ends, entries);
@@ -108,7 +107,7 @@ pub extern "C" fn variant_rollback(
     ends: &[usize],
     entries: &mut [usize],
 ) -> u8
-    ensures { λ r. ⌜ DoesWords r (now (words .entry)) (now (words .exit)) (storageOf (now (value .entry)) (now (text .entry)) (now (ends .entry)) (now (entries .exit))) (step (stateOf (now (words .entry)) (storageOf (now (value .entry)) (now (text .entry)) (now (ends .entry)) (now (entries .entry)))) rollBack) ⌝ }
+    ensures { λ r. ⌜ DoesWords r (now (words .entry)) (now (words .exit)) (storageOf (now (value .entry)) (now (text .entry)) (now (ends .entry)) (now (entries .entry))) (storageOf (now (value .entry)) (now (text .entry)) (now (ends .entry)) (now (entries .exit))) rollBack ⌝ }
 {
     let v = view_of(words);
     let r = rollback_over(v, value, text, ends, entries);
@@ -131,7 +130,7 @@ pub extern "C" fn variant_append_value(
     low: u64,
     scale: u8,
 ) -> u8
-    ensures { λ r. ⌜ DoesWords r (now (words .entry)) (now (words .exit)) (storageOf (now (value .exit)) (now (text .exit)) (now (ends .exit)) (now (entries .exit))) (step (stateOf (now (words .entry)) (storageOf (now (value .entry)) (now (text .entry)) (now (ends .entry)) (now (entries .entry)))) (appendOf (nameOf named (now (name .entry))) (fixed (variantOf code z low scale)))) ⌝ }
+    ensures { λ r. ⌜ DoesWords r (now (words .entry)) (now (words .exit)) (storageOf (now (value .entry)) (now (text .entry)) (now (ends .entry)) (now (entries .entry))) (storageOf (now (value .exit)) (now (text .exit)) (now (ends .exit)) (now (entries .exit))) (appendOf (nameOf named (now (name .entry))) (fixed (variantOf code z low scale))) ⌝ }
 {
     let c = counts_of(words);
     let x = variant_of(code, z, low, scale);
@@ -158,7 +157,7 @@ pub extern "C" fn variant_append_value(
     0
 }
 
-// Bytes of kind 0, binary; 1, String; 2, short text; any other, plain text.
+// Bytes of kind 0, binary; 1, String; 2, short text; 3, plain text. Those of any other kind are refused as numbers that are no scalar.
 #[no_mangle]
 pub extern "C" fn variant_append_bytes(
     words: &mut [usize; WORDS],
@@ -171,12 +170,12 @@ pub extern "C" fn variant_append_bytes(
     kind: u8,
     bytes: &[u8],
 ) -> u8
-    ensures { λ r. ⌜ DoesWords r (now (words .entry)) (now (words .exit)) (storageOf (now (value .exit)) (now (text .exit)) (now (ends .exit)) (now (entries .exit))) (step (stateOf (now (words .entry)) (storageOf (now (value .entry)) (now (text .entry)) (now (ends .entry)) (now (entries .entry)))) (appendOf (nameOf named (now (name .entry))) (bytesOf (kindOf kind) (now (bytes .entry))))) ⌝ }
+    ensures { λ r. ⌜ DoesWords r (now (words .entry)) (now (words .exit)) (storageOf (now (value .entry)) (now (text .entry)) (now (ends .entry)) (now (entries .entry))) (storageOf (now (value .exit)) (now (text .exit)) (now (ends .exit)) (now (entries .exit))) (appendOf (nameOf named (now (name .entry))) (bytesBy kind (now (bytes .entry)))) ⌝ }
 {
     let c = counts_of(words);
     let k = kind_of(kind);
     let size = bytes_size(k, bytes);
-    let n = row(ill_formed(k, bytes), 8, 0);
+    let n = row(3 < kind, 7, row(ill_formed(k, bytes), 8, 0));
     let e = enter(
         words,
         value,
@@ -209,7 +208,7 @@ pub extern "C" fn variant_append_uuid(
     name: &[u8],
     uuid: &[u8; 16],
 ) -> u8
-    ensures { λ r. ⌜ DoesWords r (now (words .entry)) (now (words .exit)) (storageOf (now (value .exit)) (now (text .exit)) (now (ends .exit)) (now (entries .exit))) (step (stateOf (now (words .entry)) (storageOf (now (value .entry)) (now (text .entry)) (now (ends .entry)) (now (entries .entry)))) (appendOf (nameOf named (now (name .entry))) (uuidOf (now (uuid .entry))))) ⌝ }
+    ensures { λ r. ⌜ DoesWords r (now (words .entry)) (now (words .exit)) (storageOf (now (value .entry)) (now (text .entry)) (now (ends .entry)) (now (entries .entry))) (storageOf (now (value .exit)) (now (text .exit)) (now (ends .exit)) (now (entries .exit))) (appendOf (nameOf named (now (name .entry))) (uuidOf (now (uuid .entry)))) ⌝ }
 {
     sixteen(uuid);
     let c = counts_of(words);
@@ -245,7 +244,7 @@ pub extern "C" fn variant_new_list(
     named: bool,
     name: &[u8],
 ) -> u8
-    ensures { λ r. ⌜ DoesWords r (now (words .entry)) (now (words .exit)) (storageOf (now (value .entry)) (now (text .exit)) (now (ends .exit)) (now (entries .exit))) (step (stateOf (now (words .entry)) (storageOf (now (value .entry)) (now (text .entry)) (now (ends .entry)) (now (entries .entry)))) (openIn (nameOf named (now (name .entry))) false)) ⌝ }
+    ensures { λ r. ⌜ DoesWords r (now (words .entry)) (now (words .exit)) (storageOf (now (value .entry)) (now (text .entry)) (now (ends .entry)) (now (entries .entry))) (storageOf (now (value .entry)) (now (text .exit)) (now (ends .exit)) (now (entries .exit))) (openIn (nameOf named (now (name .entry))) false) ⌝ }
 {
     new_container(words, value, text, ends, entries, named, name, false)
 }
@@ -260,7 +259,7 @@ pub extern "C" fn variant_new_object(
     named: bool,
     name: &[u8],
 ) -> u8
-    ensures { λ r. ⌜ DoesWords r (now (words .entry)) (now (words .exit)) (storageOf (now (value .entry)) (now (text .exit)) (now (ends .exit)) (now (entries .exit))) (step (stateOf (now (words .entry)) (storageOf (now (value .entry)) (now (text .entry)) (now (ends .entry)) (now (entries .entry)))) (openIn (nameOf named (now (name .entry))) true)) ⌝ }
+    ensures { λ r. ⌜ DoesWords r (now (words .entry)) (now (words .exit)) (storageOf (now (value .entry)) (now (text .entry)) (now (ends .entry)) (now (entries .entry))) (storageOf (now (value .entry)) (now (text .exit)) (now (ends .exit)) (now (entries .exit))) (openIn (nameOf named (now (name .entry))) true) ⌝ }
 {
     new_container(words, value, text, ends, entries, named, name, true)
 }
@@ -275,7 +274,7 @@ fn new_container(
     name: &[u8],
     object: bool,
 ) -> u8
-    ensures { λ r. ⌜ DoesWords r (now (words .entry)) (now (words .exit)) (storageOf (now (value .entry)) (now (text .exit)) (now (ends .exit)) (now (entries .exit))) (step (stateOf (now (words .entry)) (storageOf (now (value .entry)) (now (text .entry)) (now (ends .entry)) (now (entries .entry)))) (openIn (nameOf named (now (name .entry))) object)) ⌝ }
+    ensures { λ r. ⌜ DoesWords r (now (words .entry)) (now (words .exit)) (storageOf (now (value .entry)) (now (text .entry)) (now (ends .entry)) (now (entries .entry))) (storageOf (now (value .entry)) (now (text .exit)) (now (ends .exit)) (now (entries .exit))) (openIn (nameOf named (now (name .entry))) object) ⌝ }
 {
     let c = counts_of(words);
     let e = enter(
@@ -310,7 +309,7 @@ pub extern "C" fn variant_with_validate_unique_fields(
     entries: &[usize],
     unique: bool,
 ) -> u8
-    ensures { λ r. ⌜ DoesWords r (now (words .entry)) (now (words .exit)) (storageOf (now (value .entry)) (now (text .entry)) (now (ends .entry)) (now (entries .entry))) (step (stateOf (now (words .entry)) (storageOf (now (value .entry)) (now (text .entry)) (now (ends .entry)) (now (entries .entry)))) (uniqueness unique)) ⌝ }
+    ensures { λ r. ⌜ DoesWords r (now (words .entry)) (now (words .exit)) (storageOf (now (value .entry)) (now (text .entry)) (now (ends .entry)) (now (entries .entry))) (storageOf (now (value .entry)) (now (text .entry)) (now (ends .entry)) (now (entries .entry))) (uniqueness unique) ⌝ }
 {
     let v = view_of(words);
     let n = unique_number(v, value, text, ends, entries);
@@ -343,7 +342,7 @@ pub extern "C" fn variant_finish(
     out: &mut [u8],
     written: &mut usize,
 ) -> u8
-    ensures { λ r. ⌜ FinishesWords r (now (words .entry)) (now (words .exit)) (storageOf (now (value .entry)) (now (text .entry)) (now (ends .entry)) (now (entries .entry))) (now (out .exit)) (now (written .entry)) (now (written .exit)) (step (stateOf (now (words .entry)) (storageOf (now (value .entry)) (now (text .entry)) (now (ends .entry)) (now (entries .entry)))) (finishOf (now (out .entry)))) ⌝ }
+    ensures { λ r. ⌜ FinishesWords r (now (words .entry)) (now (words .exit)) (storageOf (now (value .entry)) (now (text .entry)) (now (ends .entry)) (now (entries .entry))) (now (out .entry)) (now (out .exit)) (now (written .entry)) (now (written .exit)) ⌝ }
 {
     let v = view_of(words);
     let r = finish_over(v, value, text, ends, entries, out);

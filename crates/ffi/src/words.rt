@@ -7,10 +7,10 @@ use run::ParentEntry;
 use run::View;
 ghost use mathlib.Core.Path.{_≡_};
 ghost use Prim.Native.Nat.{_-_, _<_};
-ghost use lib.ListN.{length, set};
+ghost use lib.ListN.{length};
 ghost use Rattle.run.specs.Record.{chained, containerAt, innermost, noContainer, parentOf, viewOf};
 ghost use Rattle.run.specs.Record.{under as underOf};
-ghost use Rattle.ffi.specs.Words.{builderOf, containersOf, countsOf, Puts, flag as flagOf, idOf, offsetOf, parentEntryOf, tagOf, wordOf};
+ghost use Rattle.ffi.specs.Words.{builderOf, containersOf, countsOf, Puts, PutsContainer, PutsCounts, flag as flagOf, idOf, offsetOf, parentEntryOf, tagOf, wordOf};
 
 // How many words there are.
 fn count(words: &[usize]) -> usize
@@ -95,7 +95,7 @@ fn no_container() -> Container
 }
 
 pub(crate) fn put_counts(words: &mut [usize; WORDS], c: Counts)
-    ensures { λ _. ⌜ builderOf (now (words .exit)) ≡ record { containers = containersOf (now (words .entry)); counts = c } ⌝ }
+    ensures { λ _. ⌜ PutsCounts (now (words .entry)) (now (words .exit)) c ⌝ }
 {
     whole(words);
     let m = c.dictionary;
@@ -111,7 +111,7 @@ pub(crate) fn put_counts(words: &mut [usize; WORDS], c: Counts)
 
 pub(crate) fn put_container(words: &mut [usize; WORDS], d: usize, k: Container)
     requires { ⌜ d < 64 ⌝ }
-    ensures { λ _. ⌜ builderOf (now (words .exit)) ≡ record { containers = set (containersOf (now (words .entry))) d k; counts = countsOf (now (words .entry)) } ⌝ }
+    ensures { λ _. ⌜ PutsContainer (now (words .entry)) (now (words .exit)) d k ⌝ }
 {
     whole(words);
     let p = 8 + 9 * d;

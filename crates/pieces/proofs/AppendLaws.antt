@@ -24,20 +24,29 @@ use Rattle.pieces.specs.declared.enter.Entered.{Entered}
 use Rattle.pieces.specs.Pieces.{EntersBy, Leaves, entriesPut}
 use Rattle.pieces.proofs.EnterLaws.{enter-clears}
 
+-- refused, by rows that are the append's: all is as it was
+pub append-refused : {v : View} {l : Storage} {nm : Option Name} (x : Scalars) (own : ℕ) {size : ℕ} {e : Entered} {text ends : List ℕ} → first (enterRows v l nm true false own size) ≡ numberOf v l (append nm x)
+    → EntersBy v l nm false size (first (enterRows v l nm true false own size)) e text ends → (e .number ≡ 0 → ⊥)
+    → Leaves v l (append nm x) (record { counts = e .counts; number = e .number }) (storageOf (l .value) text ends (l .entries))
+append-refused {v} {l} {nm} x own {size} rows a z =
+    let n = a .number ∙ rows in
+    let y = ne-eqb (first (enterRows v l nm true false own size)) 0 (λ p. z (a .number ∙ p)) in
+    let z' = ne-eqb (numberOf v l (append nm x)) 0 (λ p. z (n ∙ p)) in
+    record { number = n; counts = rw (z', a .counts, y); storage = rw (z', a .textLeft, a .endsLeft, y) }
+
+-- the rows are the append's, by the scalar's own number and its size
+pub append-rows : (v : View) (l : Storage) (nm : Option Name) (x : Scalars) {own size : ℕ} → own ≡ first (scalarRows x) → size ≡ length (scalarBytes (scalarOf x))
+    → first (enterRows v l nm true false own size) ≡ numberOf v l (append nm x)
+unfolding numberOf
+append-rows v l nm x o s = rw (o, s) (append-number v l nm (scalarRows x) (length (scalarBytes (scalarOf x))) (scalar-order x))
+
 module _ {v : View} {l : Storage} {nm : Option Name} (x : Scalars) {own size : ℕ} {e : Entered} {text ends : List ℕ} (o : own ≡ first (scalarRows x))
     (s : size ≡ length (scalarBytes (scalarOf x))) (a : EntersBy v l nm false size (first (enterRows v l nm true false own size)) e text ends) where
-  -- the rows are the append's
   rows : first (enterRows v l nm true false own size) ≡ numberOf v l (append nm x)
-  unfolding numberOf
-  rows = rw (o, s) (append-number v l nm (scalarRows x) (length (scalarBytes (scalarOf x))) (scalar-order x))
+  rows = append-rows v l nm x o s
 
-  -- refused: all is as it was
   pub append-stays : (e .number ≡ 0 → ⊥) → Leaves v l (append nm x) (record { counts = e .counts; number = e .number }) (storageOf (l .value) text ends (l .entries))
-  append-stays z =
-      let n = a .number ∙ rows in
-      let y = ne-eqb (first (enterRows v l nm true false own size)) 0 (λ p. z (a .number ∙ p)) in
-      let z' = ne-eqb (numberOf v l (append nm x)) 0 (λ p. z (n ∙ p)) in
-      record { number = n; counts = rw (z', a .counts, y); storage = rw (z', a .textLeft, a .endsLeft, y) }
+  append-stays z = append-refused x own rows a z
 
   -- carried out
   pub append-writes : {p : Placed} {value entries : List ℕ} → e .number ≡ 0 → entries ≡ entriesPut e (l .entries) → Writes (v .counts .value) (scalarBytes (scalarOf x)) (l .value) p value

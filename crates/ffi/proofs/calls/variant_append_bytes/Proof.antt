@@ -1,9 +1,10 @@
 use borrow.Author.Needs.{needs}
-use Rattle.run.specs.Record.{bytes, storageOf}
+use mathlib.Core.Path.{_∙_, ap}
+use mathlib.Core.Bool.{cond}
+use lib.Dec.{ltb}
+use Rattle.run.specs.Record.{storageOf}
 use Rattle.table.specs.Decide.{nameOf}
-use Rattle.table.proofs.RowLaws.{own-row}
-use Rattle.ffi.specs.Scalars.{kindOf}
-use Rattle.ffi.proofs.CallLaws.{does-appended, does-refused}
+use Rattle.ffi.proofs.CallLaws.{bytes-appended, bytes-refused}
 use Rattle.ffi.proofs.calls.variant_append_bytes.Statement.{statement}
 use Rattle.ffi.proofs.calls.variant_append_bytes.Tie as tie
 
@@ -11,12 +12,12 @@ returns : tie.Need-returns
 returns c =
     let e = c .before .before .before .before .before .before in
     let o = e .before .before .before .before .before .before in
-    let u = o .before .before .before .before in
-    let s = u .before .before .before .before .before .before .before .before in
-    let a = s .args in
-    let k = o .before .before .before .kind-of .ensures in
-    does-refused (a .words .now) (storageOf (a .value .now) (a .text .now) (a .ends .now) (a .entries .now)) (nameOf (a .named) (a .name .now)) (bytes (kindOf (a .kind)) (a .bytes .now))
-    (own-row 8 (o .row .ensures) (rw k at (o .before .ill-formed .ensures))) (rw k at (o .before .before .bytes-size .ensures)) (e .enter .ensures) (c .if1 .taken)
+    let k = o .before .before .before .before .kind-of .ensures in
+    let u = o .before .before .before .before .before in
+    let a = u .before .before .before .before .before .before .before .before .args in
+    let f = rw k at (o .before .before .ill-formed .ensures) in
+    bytes-refused (a .words .now) (storageOf (a .value .now) (a .text .now) (a .ends .now) (a .entries .now)) (nameOf (a .named) (a .name .now)) (a .kind) (a .bytes .now)
+    (o .row2 .ensures ∙ ap (cond (ltb 3 (a .kind)) 7) (o .before .row .ensures ∙ ap (λ t. cond t 8 0) f)) (rw k at (o .before .before .before .bytes-size .ensures)) (e .enter .ensures) (c .if1 .taken)
 
 returns-2 : tie.Need-returns-2
 returns-2 c =
@@ -24,18 +25,19 @@ returns-2 c =
     let i = n .before .before in
     let e = i .before .before .before .before .before .before in
     let o = e .before .before .before .before .before .before in
-    let u = o .before .before .before .before in
-    let s = u .before .before .before .before .before .before .before .before in
-    let a = s .args in
-    let k = o .before .before .before .kind-of .ensures in
-    does-appended (a .words .now) (storageOf (a .value .now) (a .text .now) (a .ends .now) (a .entries .now)) (nameOf (a .named) (a .name .now)) (bytes (kindOf (a .kind)) (a .bytes .now))
-    (own-row 8 (o .row .ensures) (rw k at (o .before .ill-formed .ensures))) (rw k at (o .before .before .bytes-size .ensures)) (e .enter .ensures)
+    let k = o .before .before .before .before .kind-of .ensures in
+    let u = o .before .before .before .before .before in
+    let a = u .before .before .before .before .before .before .before .before .args in
+    let f = rw k at (o .before .before .ill-formed .ensures) in
+    bytes-appended (a .words .now) (storageOf (a .value .now) (a .text .now) (a .ends .now) (a .entries .now)) (nameOf (a .named) (a .name .now)) (a .kind) (a .bytes .now)
+    (o .row2 .ensures ∙ ap (cond (ltb 3 (a .kind)) 7) (o .before .row .ensures ∙ ap (λ t. cond t 8 0) f)) (rw k at (o .before .before .before .bytes-size .ensures)) (e .enter .ensures)
     (i .if1 .left) (n .note .ensures .1) (rw (k, u .counts-of .ensures) at (c .before .before .write-bytes .ensures))
 
 pub variant-append-bytes-spec : {M : Type 1} → statement M
 variant-append-bytes-spec =
     tie.close
     (tie.spec
+    (λ c κs. search needs)
     (λ c κs. search needs)
     (λ c κs. search needs)
     (λ c κs. search needs)

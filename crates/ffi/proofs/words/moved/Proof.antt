@@ -4,12 +4,12 @@ use Rattle.ffi.proofs.words.moved.Statement.{statement}
 use Rattle.ffi.proofs.words.moved.Tie as tie
 
 returns : tie.Need-returns
-returns c = record { number = refl; counts = λ e. absurd (c .if1 .taken e); kept = λ f. refl }
+returns c = record { number = refl; put = λ e. absurd (c .if1 .taken e); kept = λ f. refl }
 
 returns-2 : tie.Need-returns-2
 returns-2 c =
     let i = c .before .before .before .if1 .left in
-    record { number = sym i; counts = λ e. c .put-counts .ensures; kept = λ f. absurd (f i) }
+    record { number = sym i; put = λ e. c .put-counts .ensures; kept = λ f. absurd (f i) }
 
 pub moved-spec : {M : Type 1} → statement M
 moved-spec = tie.close (tie.spec returns (λ c κs. search needs) returns-2)

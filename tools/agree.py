@@ -1,10 +1,10 @@
 #!/usr/bin/env python3
 """Holds `step` (crates/run/specs) against the Python model of document 01, by computation.
 
-    agree.py MODEL [--seed N] [--runs N] [--steps N] --out FOLDER     writes the crate `agree`
-    agree.py MODEL .. --check REPO                                    checks it in a copy of REPO
+    agree.py [--seed N] [--runs N] [--steps N] [--model FOLDER] --out CRATE     writes the crate `agree`
+    agree.py .. --check REPO                                                    checks it in a copy of REPO
 
-MODEL is the folder of model.py and script.py. The unit of comparison is one step: a whole state
+The model is tools/model, or that of another FOLDER. The unit of comparison is one step: a whole state
 before, a call, its number, the whole state after, and of finish the output. Steps come from
 
 - random runs from a fresh builder, in half of them with pokes between the calls;
@@ -838,7 +838,7 @@ def check(repo, modules):
 
 def main():
     p = argparse.ArgumentParser(description=__doc__, formatter_class=argparse.RawDescriptionHelpFormatter)
-    p.add_argument("model")
+    p.add_argument("--model", default=os.path.join(os.path.dirname(os.path.abspath(__file__)), "model"), metavar="FOLDER")
     p.add_argument("--seed", type=int, default=1)
     p.add_argument("--runs", type=int, default=400)
     p.add_argument("--share", type=int, default=1, help="one-off steps for each step of a run")

@@ -1,12 +1,12 @@
 #!/usr/bin/env python3
 """Holds a writer against the model of document 01 and against the Rust, by random scripts of calls.
 
-    compare.py WRITER MODEL [ORACLE] [--seed S] [--calls N] [--kind KIND] [--with SET]
-    compare.py --sample FOLDER MODEL ORACLE [--seed S]
+    compare.py WRITER [ORACLE] [--seed S] [--calls N] [--kind KIND] [--with SET] [--model FOLDER]
+    compare.py --sample FOLDER ORACLE [--seed S]
 
-WRITER and ORACLE are programs that answer a script on stdin, MODEL is the folder of model.py and script.py,
-whose README has the grammar. N counts the calls held against ORACLE, or without it against the model. SET names
-the requests of document 02 by which the model answers, as its --with does; WRITER answers by what has landed.
+WRITER and ORACLE are programs that answer a script on stdin; the model is tools/model, or that of another FOLDER, and
+its README has the grammar. N counts the calls held against ORACLE, or without it against the model. SET names the
+requests of document 02 by which the model answers, as its --with does; WRITER answers by what has landed.
 
 Every answer of WRITER must be the model's. ORACLE gets the same runs but for altered storage, without the calls
 that are refused with a number other than 6, 10 and 15 (a refusal changes nothing; so none of 17 and above) and
@@ -27,6 +27,7 @@ CALLS = ("register", "append", "open", "close", "rollback", "unique", "mark", "r
 OPENED = {"open": 1, "close": -1, "rollback": -1}
 BATCH = 30_000
 SHOWN = 5
+MODEL = os.path.join(os.path.dirname(os.path.abspath(__file__)), "model")
 LIMITS = {"value": 2048, "namebytes": 512, "names": 64, "entries": 256, "out": 1024}
 
 
@@ -253,16 +254,18 @@ def sample(model, args, per_kind=46):
 
 def main():
     parser = argparse.ArgumentParser(description=__doc__, formatter_class=argparse.RawDescriptionHelpFormatter)
-    parser.add_argument("programs", nargs="+", metavar="WRITER MODEL ORACLE")
+    parser.add_argument("programs", nargs="+", metavar="WRITER ORACLE")
     parser.add_argument("--seed", default="1")
     parser.add_argument("--calls", type=int, default=100_000)
     parser.add_argument("--kind", choices=list(scripts.MAKERS))
     parser.add_argument("--with", dest="wanted", default="", metavar="SET")
     parser.add_argument("--sample", metavar="FOLDER")
+    parser.add_argument("--model", default=MODEL, metavar="FOLDER")
     args = parser.parse_args()
-    names = [None, *args.programs] if args.sample else [*args.programs, None]
-    args.writer, folder, args.oracle = names[:3]
-    model = load(folder, args.wanted)
+    if len(args.programs) > (1 if args.sample else 2):
+        parser.error("WRITER [ORACLE], or with --sample ORACLE; the model's folder is named by --model")
+    args.writer, args.oracle = [None, *args.programs] if args.sample else [*args.programs, None][:2]
+    model = load(args.model, args.wanted)
     return sample(model, args) if args.sample else compare(model, args)
 
 

@@ -2,10 +2,10 @@
 computed here. In crates/replay/data are
 - scripts.txt and the real Rust's answers to them, answers.txt, both made by tools/compare.py --sample;
 - edges.txt, written by hand: each of document 01's numbers refused, and just not, some over a record or storage altered by pokes; and
-  edges_answers.txt, the answers of a model of document 01, since the Rust has no such cases. --answers MODEL, the folder of
-  model.py, makes them again, with the landed requests named by --with.
+  edges_answers.txt, the answers of a model of document 01, since the Rust has no such cases. --answers makes them again, by
+  tools/model or that of another FOLDER, with the landed requests named by --with.
 
-    python3 tools/replay.py [ROOT] [--answers MODEL [--with SET]]
+    python3 tools/replay.py [ROOT] [--answers [--with SET] [--model FOLDER]]
 
 All is hexadecimal; sizes are two bytes, highest first. The first line is the number of scripts. A script is a line of its mark,
 how many lines follow, and the storage that it is lent (value, namebytes, names, entries; `fill` is not used); then a line for
@@ -131,12 +131,13 @@ def answer_edges(folder, model, requests):
 def main():
     parser = argparse.ArgumentParser(description=__doc__, formatter_class=argparse.RawDescriptionHelpFormatter)
     parser.add_argument('root', nargs='?', default='.', metavar='ROOT')
-    parser.add_argument('--answers', metavar='MODEL')
+    parser.add_argument('--answers', action='store_true')
+    parser.add_argument('--model', default=os.path.join(os.path.dirname(os.path.abspath(__file__)), 'model'), metavar='FOLDER')
     parser.add_argument('--with', dest='requests', metavar='SET')
     args = parser.parse_args()
     folder = os.path.join(args.root, 'crates', 'replay')
     if args.answers:
-        answer_edges(folder, args.answers, args.requests)
+        answer_edges(folder, args.model, args.requests)
     both = scripts(folder, 'scripts.txt', 'answers.txt') + scripts(folder, 'edges.txt', 'edges_answers.txt')
     with open(os.path.join(folder, 'stdin'), 'w') as f:
         print(size(len(both)).hex(), *(line for lines in both for line in lines), sep='\n', file=f)

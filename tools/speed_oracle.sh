@@ -3,15 +3,16 @@
 #
 #     tools/speed_oracle.sh ORACLE [ROUNDS]
 #
-# ORACLE is the folder whose `rust` is the workspace of the oracle. A copy of it, in a temporary folder, gets one more program,
-# made of speed_oracle.rs and the modules of variant-bench. It is run twice: with cargo's own release profile, and with that
+# ORACLE is the workspace that tools/oracle.sh makes. A copy of it, in a temporary folder, gets one more program, made of
+# speed_oracle.rs and the modules of variant-bench. It is run twice: with cargo's own release profile, and with that
 # of the workspace, which has overflow checks and debug assertions on.
 set -eu
 [ $# -ge 1 ] || { echo "usage: $0 ORACLE [ROUNDS]" >&2; exit 2; }
 repo=$(cd "$(dirname "$0")/.." && pwd)
 work=$(mktemp -d)
 trap 'rm -rf "$work"' EXIT
-cp -r "$1/rust" "$work/rust"
+cp -r "$1" "$work/rust"
+rm -rf "$work/rust/target"
 cd "$work/rust"
 sed -i 's/members = \[/members = ["speed", /' Cargo.toml
 mkdir -p speed/src

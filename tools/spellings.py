@@ -1,19 +1,21 @@
 #!/usr/bin/env python3
 """Holds variant-script against the model of document 01 on scripts as people may type them, bad lines included.
 
-    spellings.py WRITER MODEL [--seed S] [--runs N]
+    spellings.py WRITER [--seed S] [--runs N] [--model FOLDER]
 
-WRITER is variant-script, MODEL the folder of model.py and script.py. A run is one random script: signs, underscores
-and leading zeros in numbers, `0x`, capitals, COUNTxHEX, tabs, comments, line ends of three kinds, pokes of all
-fields, and now and then a line that is no call. Numbers of `new`, `finish` and pokes are those of the grammar, 0 to
-2^64 - 1. Every answer must be the model's; where the model cannot take a line, WRITER must stop there with status 2
-and say which line it is.
+WRITER is variant-script; the model is tools/model, or that of another FOLDER. A run is one random script: signs,
+underscores and leading zeros in numbers, `0x`, capitals, COUNTxHEX, tabs, comments, line ends of three kinds, pokes
+of all fields, and now and then a line that is no call. Numbers of `new`, `finish` and pokes are those of the grammar,
+0 to 2^64 - 1. Every answer must be the model's; where the model cannot take a line, WRITER must stop there with
+status 2 and say which line it is.
 """
 import argparse
+import os
 import random
 import subprocess
 import sys
 
+MODEL = os.path.join(os.path.dirname(os.path.abspath(__file__)), "model")
 LARGE = (63, 64, 65, 255, 256, 2**32 - 1, 2**32, 2**63, 2**64 - 1)
 BITS = (7, 15, 31, 32, 63, 127, 128)
 NO_CALLS = ("close 1", "new size=1", "open tree", "call", "unique 2", "poke field 1", "poke container 64 value 0")
@@ -114,9 +116,9 @@ def same(writer, text, answers, bad):
 def main():
     parser = argparse.ArgumentParser(description=__doc__, formatter_class=argparse.RawDescriptionHelpFormatter)
     parser.add_argument("writer")
-    parser.add_argument("model")
     parser.add_argument("--seed", default="1")
     parser.add_argument("--runs", type=int, default=20_000)
+    parser.add_argument("--model", default=MODEL, metavar="FOLDER")
     args = parser.parse_args()
     sys.path.insert(0, args.model)
     import model

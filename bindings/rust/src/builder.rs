@@ -1,3 +1,22 @@
+// Licensed to the Apache Software Foundation (ASF) under one
+// or more contributor license agreements.  See the NOTICE file
+// distributed with this work for additional information
+// regarding copyright ownership.  The ASF licenses this file
+// to you under the Apache License, Version 2.0 (the
+// "License"); you may not use this file except in compliance
+// with the License.  You may obtain a copy of the License at
+//
+//   http://www.apache.org/licenses/LICENSE-2.0
+//
+// Unless required by applicable law or agreed to in writing,
+// software distributed under the License is distributed on an
+// "AS IS" BASIS, WITHOUT WARRANTIES OR CONDITIONS OF ANY
+// KIND, either express or implied.  See the License for the
+// specific language governing permissions and limitations
+// under the License.
+
+// The names of the calls are derived from `VariantBuilder`, `ListBuilder` and `ObjectBuilder` of parquet-variant 60.1.0, src/builder.rs,
+// src/builder/list.rs and src/builder/object.rs (see NOTICE). Changed: one builder over storage that does not grow, calls linked.
 use crate::variant::Numbers;
 use crate::{sys, Refusal, Variant, WORDS};
 use std::ops::{Deref, DerefMut};
@@ -47,6 +66,7 @@ macro_rules! call {
     }};
 }
 
+/// A linked call's answer: only 0 is done, whatever other numbers there are.
 fn answer(number: u8) -> Result<(), Refusal> {
     Refusal::of(number).map_or(Ok(()), Err)
 }
@@ -213,6 +233,22 @@ impl<T> DerefMut for Buffer<'_, T> {
         match self {
             Buffer::Owned(v) => v,
             Buffer::Lent(s) => s,
+        }
+    }
+}
+
+#[cfg(test)]
+mod tests {
+    use super::{answer, Refusal};
+
+    #[test]
+    fn only_0_is_done() {
+        assert_eq!(answer(0), Ok(()));
+        for number in 1..=u8::MAX {
+            let refusal = answer(number).expect_err("a refusal");
+            assert_eq!(refusal.number(), number);
+            assert_eq!(refusal == Refusal::Unknown(number), number > 16);
+            assert!(refusal.to_string().starts_with(&format!("refused {number}: ")));
         }
     }
 }

@@ -15,7 +15,8 @@
 //! # Ok::<(), variant_writer::Refusal>(())
 //! ```
 //!
-//! Proved is what the linked calls do (`crates/ffi`); this crate only hands slices to them, and `listing` is for people to read.
+//! docs/FORMAT.md of the repository says what the bytes and the calls are. Proved is what the linked calls do (`crates/ffi`); this
+//! crate only hands slices to them, and `listing` is for people to read.
 mod builder;
 mod listing;
 mod refusal;

@@ -1,3 +1,5 @@
+// The names are derived from the enum `Variant` of parquet-variant 60.1.0, src/variant.rs (see NOTICE). Changed: scalars only; dates, times
+// and timestamps are whole numbers, texts are bytes.
 /// A scalar. Days, microseconds and nanoseconds count from 1970, a time's microseconds from midnight; a float's bits are kept.
 ///
 /// `Text` is plain text, stored as short text up to 63 bytes and as a String above; `ShortString` and `String` are the explicit
@@ -29,7 +31,7 @@ pub enum Variant<'a> {
     Text(&'a [u8]),
 }
 
-/// A scalar as the linked calls take it (`crates/ffi/specs/Scalars.antt`).
+/// A scalar as the linked calls take it (`crates/ffi/specs/Scalars.antt`). Bytes have a kind, 0 to 3; the linked call refuses any other with 7.
 pub(crate) enum Numbers<'a> {
     Fixed { code: u8, z: i64, low: u64, scale: u8 },
     Bytes(u8, &'a [u8]),

@@ -142,7 +142,7 @@ fn full_and_grown() {
 #[test]
 fn numbers_and_refusals() {
     for number in 0..=255 {
-        assert_eq!(Refusal::of(number).map(Refusal::number), (1..=16).contains(&number).then_some(number));
+        assert_eq!(Refusal::of(number).map(Refusal::number), (number != 0).then_some(number));
     }
 }
 
@@ -155,9 +155,20 @@ fn kinds_of_bytes() {
         // SAFETY: each pointer is a borrow's, with its length
         sys::variant_append_bytes(
             words,
-            value.as_mut_ptr(), value.len(), text.as_mut_ptr(), text.len(),
-            ends.as_mut_ptr(), ends.len(), entries.as_mut_ptr(), entries.len(),
-            false, [].as_ptr(), 0, kind, b"hi".as_ptr(), 2,
+            value.as_mut_ptr(),
+            value.len(),
+            text.as_mut_ptr(),
+            text.len(),
+            ends.as_mut_ptr(),
+            ends.len(),
+            entries.as_mut_ptr(),
+            entries.len(),
+            false,
+            [].as_ptr(),
+            0,
+            kind,
+            b"hi".as_ptr(),
+            2,
         )
     };
     for kind in 0..=u8::MAX {

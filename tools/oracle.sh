@@ -4,7 +4,7 @@
 #
 #     tools/oracle.sh SOURCES ORACLE [VENDOR]
 #
-# SOURCES is the folder with src/builder.rs, src/builder/list.rs and the others, as crates.io has them; ORACLE is the folder to be made.
+# SOURCES is the folder with src/builder.rs, src/builder/list.rs and the others, unchanged; ORACLE is the folder to be made.
 # The program is then ORACLE/target/release/oracle. Four crates are needed beside it (chrono, half, indexmap, uuid): cargo fetches
 # them, or takes them from the folder VENDOR of unpacked ones.
 set -eu
@@ -22,7 +22,7 @@ done
 offline=
 if [ $# -ge 3 ]; then
     mkdir "$2/.cargo"
-    printf '[source.crates-io]\nreplace-with = "vendored"\n\n[source.vendored]\ndirectory = "%s"\n' "$(cd "$3" && pwd)" >"$2/.cargo/config.toml"
+    printf '[source.cargo]\nreplace-with = "vendored"\n\n[source.vendored]\ndirectory = "%s"\n' "$(cd "$3" && pwd)" >"$2/.cargo/config.toml"
     offline=--offline
 fi
 cd "$2" && cargo build -q --release $offline

@@ -1,5 +1,5 @@
 #!/usr/bin/env python3
-"""Holds `step` (crates/run/specs) against the Python model of document 01, by computation.
+"""Holds `step` (crates/semantics/specs) against the Python model of document 01, by computation.
 
     agree.py [--seed N] [--runs N] [--steps N] [--model FOLDER] --out CRATE     writes the crate `agree`
     agree.py .. --check REPO                                                    checks it in a copy of REPO
@@ -16,7 +16,7 @@ before, a call, its number, the whole state after, and of finish the output. Ste
 
 Each step becomes an antt term; a module shows `faults steps ≡ []` by refl: the places of the steps
 that differ. All that document 01 fixes is compared whole. Of what it leaves free: the freed
-entries of a closed object are expected sorted, as crates/run/specs says; the containers beyond
+entries of a closed object are expected sorted, as crates/semantics/specs says; the containers beyond
 the new depth are not compared (those not open beforehand are given to both sides differently).
 """
 import argparse
@@ -573,13 +573,13 @@ use Prim.Native.Nat.{ℕ, _+_, _-_}
 use lib.Dec.{eqb}
 use lib.ListN.{length, replicate}
 use Rattle.metadata.specs.Names.{same}
-use Rattle.run.specs.declared.Builder.{Builder}
-use Rattle.run.specs.declared.Container.{Container}
-use Rattle.run.specs.declared.Counts.{Counts}
-use Rattle.run.specs.declared.ParentEntry.{ParentEntry}
-use Rattle.run.specs.declared.ParentEntry.the-variants.{New, Replaced}
-use Rattle.run.specs.Record.{Storage, storageOf, State, Call}
-use Rattle.run.specs.Step.{Outcome, step, lentOutput}
+use Rattle.semantics.specs.declared.Builder.{Builder}
+use Rattle.semantics.specs.declared.Container.{Container}
+use Rattle.semantics.specs.declared.Counts.{Counts}
+use Rattle.semantics.specs.declared.ParentEntry.{ParentEntry}
+use Rattle.semantics.specs.declared.ParentEntry.the-variants.{New, Replaced}
+use Rattle.semantics.specs.Record.{Storage, storageOf, State, Call}
+use Rattle.semantics.specs.Step.{Outcome, step, lentOutput}
 
 -- a step as the model takes it; of the containers after it those that are open
 pub record Check : Type 0 where
@@ -692,13 +692,13 @@ use Rattle.container.specs.Layout.{listHeaderAt, listHeader, objectHeaderAt, la
 use Rattle.container.specs.Entries.{entriesOf, putEntries, seek, misplaced}
 use Rattle.container.specs.Sort.{insert, sort}
 use Rattle.container.specs.Close.{fronted}
-use Rattle.run.specs.declared.ParentEntry.the-variants.{New, Replaced}
-use Rattle.run.specs.Record.{fixed, bytes, uuid, register, append, openIn, close, rollBack, uniqueness, finish}
-use Rattle.run.specs.Record.{rising, chained}
-use Rattle.run.specs.Damage.{overUsed, unchained, fallenEnds, misplacedInner, misplacedParent, damagedParent}
-use Rattle.run.specs.Table.{header, numberOf}
-use Rattle.run.specs.Step.{registered, appended, opened, newContainer, entriesClosed, closed, rolledBack, finished, dictionaryOf, after, step}
-use Rattle.run.specs.Step as steps
+use Rattle.semantics.specs.declared.ParentEntry.the-variants.{New, Replaced}
+use Rattle.semantics.specs.Record.{fixed, bytes, uuid, register, append, openIn, close, rollBack, uniqueness, finish}
+use Rattle.semantics.specs.Record.{rising, chained}
+use Rattle.semantics.specs.Damage.{overUsed, unchained, fallenEnds, misplacedInner, misplacedParent, damagedParent}
+use Rattle.semantics.specs.Table.{header, numberOf}
+use Rattle.semantics.specs.Step.{registered, appended, opened, newContainer, entriesClosed, closed, rolledBack, finished, dictionaryOf, after, step}
+use Rattle.semantics.specs.Step as steps
 use Rattle.agree.specs.Compare.{Check, box, state, leaves, refuses, alike, alikeParents, alikeContainers, begins, alikeCounts, alikeStorage, alikeStates, agrees, faults}
 
 """

@@ -7,7 +7,7 @@ set -e
 cd "$(dirname "$0")/.."
 manifest=bindings/rust/Cargo.toml
 target=x86_64-unknown-linux-gnu
-sample=crates/replay/data
+sample=crates/test_replay/data
 answers=$(mktemp)
 trap 'rm -f "$answers"' EXIT
 

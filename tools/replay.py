@@ -1,5 +1,5 @@
-"""Writes crates/replay/stdin: two sets of scripts with their answers, recoded so that the program `replay` needs no parser. Nothing is
-computed here. In crates/replay/data are
+"""Writes crates/test_replay/stdin: two sets of scripts with their answers, recoded so that the program `test_replay` needs no parser. Nothing is
+computed here. In crates/test_replay/data are
 - scripts.txt and the real Rust's answers to them, answers.txt, both made by tools/compare.py --sample;
 - edges.txt, written by hand: each of document 01's numbers refused, and just not, some over a record or storage altered by pokes; and
   edges_answers.txt, the answers of a model of document 01, since the Rust has no such cases. --answers makes them again, by
@@ -135,7 +135,7 @@ def main():
     parser.add_argument('--model', default=os.path.join(os.path.dirname(os.path.abspath(__file__)), 'model'), metavar='FOLDER')
     parser.add_argument('--with', dest='requests', metavar='SET')
     args = parser.parse_args()
-    folder = os.path.join(args.root, 'crates', 'replay')
+    folder = os.path.join(args.root, 'crates', 'test_replay')
     if args.answers:
         answer_edges(folder, args.model, args.requests)
     both = scripts(folder, 'scripts.txt', 'answers.txt') + scripts(folder, 'edges.txt', 'edges_answers.txt')

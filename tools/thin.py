@@ -1,5 +1,5 @@
 #!/usr/bin/env python3
-"""Writes the thin calls of crates/calls from the calls by value, and the functions that lend each a local: src/thin.rt,
+"""Writes the thin calls of crates/builder_mut from the calls by value, and the functions that lend each a local: src/thin.rt,
 src/bridge.rt and the proofs, which cite the laws of proofs/ThinLaws.antt and proofs/BridgeLaws.antt, from the parameter lists
 and contracts in crates/builder/src/calls.rt.
 
@@ -16,7 +16,7 @@ def calls(text):
     """Name, parameters but for the record, answer's type, contract and comment of each public call."""
     for m in re.finditer(r'((?://[^\n]*\n)*)pub fn (\w+)\(\n    b: Builder,\n(.*?)\) -> (\w+)\n    ensures \{ λ r\. ⌜ (.*?) ⌝ \}', text, re.S):
         ps = [tuple(p.strip().rstrip(',').split(': ', 1)) for p in m[3].strip().split('\n')]
-        yield m[2], ps, m[4], m[5], m[1]
+        yield m[2], ps, m[4], ' '.join(m[5].split()), m[1]
 
 
 def answer_type(result):
@@ -39,19 +39,30 @@ def step_of(parts):
 def head(comment, names, uses, specs):
     return ['// Written by tools/thin.py: ' + comment] + ['use %s;' % n for n in names] + [
         'ghost use mathlib.Core.Path.{_≡_};', 'ghost use mathlib.Core.Bool.{false, true};',
-        'ghost use Rattle.run.specs.Record.{%s};' % uses,
-        'ghost use Rattle.table.specs.Decide.{nameOf};'] + specs
+        'ghost use Rattle.semantics.specs.Record.{%s};' % uses,
+        'ghost use Rattle.refusals.specs.Decide.{nameOf};'] + specs
 
 
 def function(head, record, ps, result, contract, comment, body):
     out = ['', comment + '%s(' % head, '    b: %s,' % record] + ['    %s: %s,' % p for p in ps]
-    return out + [') -> ' + result, '    ensures { λ r. ⌜ %s ⌝ }' % contract, '{'] + ['    ' + l for l in body] + ['}']
+    return out + [') -> ' + result, '    ensures { λ r. ⌜ %s ⌝ }' % broken(contract), '{'] + ['    ' + l for l in body] + ['}']
+
+
+def broken(contract):
+    """A contract over lines of at most 140 characters: what it is of, the storage at exit and what is called on lines of their own."""
+    lines = ['']
+    for part in balanced(contract):
+        if lines[-1] and (len(lines[-1]) + len(part) > 110 or part.startswith('(storageOf')):
+            lines.append('')
+        lines[-1] = (lines[-1] + ' ' + part).strip()
+    return '\n        '.join(lines)
 
 
 def thin_code(fns):
-    out = head('the calls that take the record by `&mut`, each over the call by value of the same name.',
-               ['builder::Answer', 'builder::FinishAnswer', 'run::Builder', 'value::variant::Variant', 'value::variant::VariantBytes'], RECORD,
-               ['ghost use Rattle.builder.specs.Calls.{state};', 'ghost use Rattle.calls.specs.Calls.{DoesThin, FinishesThin};'])
+    out = head('the calls that take the record by `&mut`, each over the call by value of the same name.\n'
+               '// Derived from the `&mut self` methods of parquet-variant 60.1.0: see lib.rt and NOTICE. Changed: written in Rattle.',
+               ['builder::Answer', 'builder::FinishAnswer', 'semantics::Builder', 'value::variant::Variant', 'value::variant::VariantBytes'], RECORD,
+               ['ghost use Rattle.builder.specs.Calls.{state};', 'ghost use Rattle.builder_mut.specs.Calls.{DoesThin, FinishesThin};'])
     for name, ps, result, contract, comment in fns:
         call = 'builder::%s(%s)' % (name, ', '.join(['c'] + [p for p, _ in ps]))
         out += function('pub fn ' + name, '&mut Builder', ps, answer_type(result), thin_contract(contract), comment,
@@ -61,8 +72,8 @@ def thin_code(fns):
 
 def bridge_code(fns):
     out = head('each thin call by value, lent a local: the arms of `lend`.',
-               ['crate::thin', 'builder::Called', 'builder::FinishCalled', 'run::Builder', 'value::variant::Variant', 'value::variant::VariantBytes'], RECORD,
-               ['ghost use Rattle.run.specs.Step.{step};', 'ghost use Rattle.builder.specs.Calls.{Does, Finishes, state};'])
+               ['crate::thin', 'builder::Called', 'builder::FinishCalled', 'semantics::Builder', 'value::variant::Variant', 'value::variant::VariantBytes'], RECORD,
+               ['ghost use Rattle.semantics.specs.Step.{step};', 'ghost use Rattle.builder.specs.Calls.{Does, Finishes, state};'])
     for name, ps, result, contract, _ in fns:
         call = 'thin::%s(%s)' % (name, ', '.join(['&mut c'] + [p for p, _ in ps]))
         out += function('pub(crate) fn %s_lent' % name, 'Builder', ps, result, contract, '',
@@ -127,7 +138,7 @@ def proof(name, ps, result, contract, bridge):
     rest = ' '.join(exit(p) for p in parts[2:-1])
     used = lambda w: re.search(r'(?<![\w.])%s(?!\w)' % w, ' '.join([state, call, rest]))
     bools = [w for w in ('false', 'true') if used(w)]
-    P = 'Rattle.calls.proofs.'
+    P = 'Rattle.builder_mut.proofs.'
     self, callee = (P + 'bridge.%s_lent' % name, P + 'thin.' + name) if bridge else (P + 'thin.' + name, 'Rattle.builder.proofs.' + name)
     if bridge:
         law, laws, says = 'lent-meets', 'BridgeLaws', {'Does': 'thin-does', 'Finishes': 'thin-finishes'}[does]
@@ -144,11 +155,11 @@ def proof(name, ps, result, contract, bridge):
           'use denote.Builtin.{%s}' % ', '.join(sorted(kinds)), 'use denote.Signature.{typesAt}',
           'use denote.Struct.Laws as LL' if bridge else 'use denote.Ref.{ptr-vals, mut-tells}',
           'use denote.Triple.Spec.{Meets, tripleOf}', 'use denote.Triple.Statement.{Triple}', 'use denote.Triple.Table.{entered, cited}',
-          'use Rattle.run.specs.Record.{%s}' % ', '.join(r for r in RECORD.split(', ') if used(r.split(' as ')[-1])),
-          'use Rattle.run.specs.Step.{step}'] + (['use Rattle.table.specs.Decide.{nameOf}'] if used('nameOf') else []) + [
-          'use Rattle.builder.specs.Calls.{%s, state}' % does, 'use Rattle.calls.specs.Calls.{%sThin}' % does,
-          'use Rattle.run.proofs.Builder as B']
-    L += ['use Rattle.run.proofs.Builder.Laws as B′'] if bridge else []
+          'use Rattle.semantics.specs.Record.{%s}' % ', '.join(r for r in RECORD.split(', ') if used(r.split(' as ')[-1])),
+          'use Rattle.semantics.specs.Step.{step}'] + (['use Rattle.refusals.specs.Decide.{nameOf}'] if used('nameOf') else []) + [
+          'use Rattle.builder.specs.Calls.{%s, state}' % does, 'use Rattle.builder_mut.specs.Calls.{%sThin}' % does,
+          'use Rattle.semantics.proofs.Builder as B']
+    L += ['use Rattle.semantics.proofs.Builder.Laws as B′'] if bridge else []
     for t in sorted({t for _, t in ps if t in ENUMS}):
         L += ['use Rattle.%s.proofs.variant.%s as %sT' % (ENUMS[t], t, t), 'use Rattle.%s.proofs.variant.%s.Laws as %sL' % (ENUMS[t], t, t)]
     L += ['use %sLent.{Ways, %s, spellsOf, tellsOf, vssOf}' % (P, ', '.join(sorted(uses)))]
@@ -183,7 +194,7 @@ def proof(name, ps, result, contract, bridge):
           '    entered 𝓤 H (tripleOf 𝓤 H (𝓖 .A) self.signature (self.spec 𝓤 H (𝓖 .A) (𝓜 .mem) (𝓡 .run)))',
           '    (tables 𝓤 H 𝓜 𝓡 code.env .C) (tables 𝓤 H 𝓜 𝓡 code.env .Λ) #self code.function (code.unfolded 𝓤 H 𝓜 𝓡)',
           '    (meets 𝓤 H (𝓖 .A) (givenOf 𝓤 H 𝓜 𝓖) (𝓜 .mem) (𝓡 .run) (tablesOf 𝓤 H 𝓜 (tables 𝓤 H 𝓜 𝓡 code.env))',
-          '    (cited 𝓤 H (tripleOf 𝓤 H (𝓖 .A) callee.signature (callee.spec 𝓤 H (𝓖 .A) (𝓜 .mem) (𝓡 .run))) 𝓜 𝓡 code.env #callee callee-def.routine code.calls-%s·%s (callee-thm.met 𝓤 H 𝓜 𝓖 𝓡)))' % ('calls·thin' if bridge else 'builder', dashed), '']
+          '    (cited 𝓤 H (tripleOf 𝓤 H (𝓖 .A) callee.signature (callee.spec 𝓤 H (𝓖 .A) (𝓜 .mem) (𝓡 .run))) 𝓜 𝓡 code.env #callee callee-def.routine code.calls-%s·%s (callee-thm.met 𝓤 H 𝓜 𝓖 𝓡)))' % ('builder-mut·thin' if bridge else 'builder', dashed), '']
     return '\n'.join(L)
 
 
@@ -191,9 +202,9 @@ def main():
     global RECORD
     root = sys.argv[1] if len(sys.argv) > 1 else '.'
     text = open(os.path.join(root, 'crates/builder/src/calls.rt')).read()
-    RECORD = re.search(r'ghost use Rattle\.run\.specs\.Record\.\{(.*?)\};', text)[1]
+    RECORD = re.search(r'ghost use Rattle\.semantics\.specs\.Record\.\{(.*?)\};', text)[1]
     fns = list(calls(text))
-    there = os.path.join(root, 'crates/calls')
+    there = os.path.join(root, 'crates/builder_mut')
     for module, bridge, write in [('thin', False, thin_code), ('bridge', True, bridge_code)]:
         open(os.path.join(there, 'src/%s.rt' % module), 'w').write(write(fns))
         shutil.rmtree(os.path.join(there, 'proofs', module), ignore_errors=True)

@@ -1,4 +1,4 @@
-//! One scan at a tag reader as one Variant: an object of eight fields, the last one a list; the same as the program crates/scan.
+//! One scan at a tag reader as one Variant: an object of eight fields, the last one a list; the same as the program crates/demo_scan.
 //! The storage lent to the builder has room for this scan and no more.
 use variant_writer::{listing, Refusal, Variant, VariantBuilder};
 

@@ -57,7 +57,7 @@ fn scan_listed() {
     let (listed, _, status) = run(&["--listing", script], "");
     assert_eq!((status, plain.lines().count()), (0, 16));
     let finished = plain.lines().last().unwrap().replace("ok value=", "value ").replace(" dict=", "\ndictionary ");
-    assert!(include_str!("../../../crates/scan/stdout").ends_with(&(finished + "\n")));
+    assert!(include_str!("../../../crates/demo_scan/stdout").ends_with(&(finished + "\n")));
     let listing = listed.strip_prefix(&plain).unwrap();
     assert!(listing.contains("\n  weight: decimal4 412.5\n"));
     assert!(listing.contains("\n  scanned: timestamp 2026-03-05 07:42:18.250000 UTC\n"));

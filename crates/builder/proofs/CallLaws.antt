@@ -1,33 +1,31 @@
 -- A call over the record by value, from the call over its pieces.
 use mathlib.Core.Path.{_≡_, refl, sym, _∙_, ap}
-use mathlib.Core.Bool.{Bool, true, false, cond, _&&_, _||_, and-eq-true-iff, true≢false}
+use mathlib.Core.Bool.{Bool, true, false, cond, _&&_, _||_, and-eq-true-iff}
 use mathlib.Core.List.{List}
 use mathlib.Core.Option.{Option}
 use Prim.Native.Nat.{ℕ, _-_, _≤_, _<_}
-use native.Mathlib.Omega.{arith}
 use lib.Dec.{eqb, leb, ltb}
 use lib.ListN.{set}
 use borrow.Author.Tests.{eqb-true, eq-eqb, ne-eqb, leb-true, leb-false, ltb-true, not-false}
 use Rattle.metadata.specs.Names.{Name}
-use Rattle.run.specs.declared.Builder.{Builder}
-use Rattle.run.specs.declared.Container.{Container}
-use Rattle.run.specs.declared.Counts.{Counts}
-use Rattle.run.specs.declared.View.{View}
-use Rattle.run.specs.Record.{Storage, Call, openIn, uniqueness, finish, viewOf, innermost, inObject, rising, chained}
-use Rattle.run.specs.Damage.{overUsed, grown, unchained}
-use Rattle.run.proofs.Demand1.{none-at}
-use Rattle.table.proofs.ViewLaws.{neither}
-use Rattle.run.specs.Table.{numberOf}
-use Rattle.run.specs.Step.{Outcome, step, after, carriedOut, containersAfter, newContainer, marked}
+use Rattle.semantics.specs.declared.Builder.{Builder}
+use Rattle.semantics.specs.declared.Container.{Container}
+use Rattle.semantics.specs.declared.View.{View}
+use Rattle.semantics.specs.Record.{Storage, Call, openIn, uniqueness, finish, viewOf, innermost, inObject, rising, chained}
+use Rattle.semantics.specs.Damage.{overUsed, grown, unchained}
+use Rattle.semantics.proofs.Demand1.{none-at}
+use Rattle.refusals.proofs.ViewLaws.{neither}
+use Rattle.semantics.specs.Table.{numberOf}
+use Rattle.semantics.specs.Step.{Outcome, step, after, carriedOut, containersAfter, withUnique}
 use Rattle.builder.specs.declared.Answer.{Answer}
 use Rattle.builder.specs.declared.Answer.the-variants.{Done, Refused}
 use Rattle.builder.specs.declared.Called.{Called}
 use Rattle.builder.specs.declared.FinishCalled.{FinishCalled}
-use Rattle.pieces.specs.declared.Moved.{Moved}
-use Rattle.pieces.specs.declared.Opened.{Opened}
+use Rattle.actions.specs.declared.Moved.{Moved}
+use Rattle.actions.specs.declared.Opened.{Opened}
 use Rattle.builder.specs.Calls.{answerNumber, answerOf, state, calledBy, Does, finishAnswer, Finishes}
-use Rattle.pieces.specs.declared.Ended.{Ended}
-use Rattle.pieces.specs.Pieces.{Leaves, Opens, Ends}
+use Rattle.actions.specs.declared.Ended.{Ended}
+use Rattle.actions.specs.Actions.{Leaves, Opens, Ends}
 
 -- an answer has the number that it is made of
 pub answer-number : (n : ℕ) → answerNumber (answerOf n) ≡ n
@@ -104,7 +102,7 @@ module _ (b : Builder) (l : Storage) (u : Bool) {v : View} {n : ℕ} (p : v ≡ 
       let z = ne-eqb (numberOf (viewOf b) l (uniqueness u)) 0 (λ f. h (w ∙ f)) in
       does (step (state b l) (uniqueness u)) (rw (step-refused b l (uniqueness u) z, step-refused-storage b l (uniqueness u) z, d, w, z) (refl, refl))
 
-  pub unique-marked : {a : Answer} {k : Container} → n ≡ 0 → a ≡ answerOf 0 → k ≡ marked (v .inner) u
+  pub unique-marked : {a : Answer} {k : Container} → n ≡ 0 → a ≡ answerOf 0 → k ≡ withUnique (v .inner) u
       → Does (record { answer = a; builder = record { containers = set (b .containers) (b .counts .depth - 1) k; counts = b .counts } }) l (step (state b l) (uniqueness u))
   unfolding after
   unique-marked h d k =

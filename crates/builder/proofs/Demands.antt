@@ -7,12 +7,12 @@ use mathlib.Core.Option.{some}
 use Prim.Native.Nat.{ℕ}
 use lib.ListN.{length-replicate}
 use Rattle.metadata.specs.Bytes.{dictionaryNames}
-use Rattle.run.specs.declared.Builder.{Builder}
-use Rattle.run.specs.Record.{State, Call, noContainer}
-use Rattle.run.specs.Tree.{Tree, encode}
-use Rattle.run.specs.Run.{Fresh, valueBytes, kept, keptDictionary, Made, FinishedCalls}
-use Rattle.run.specs.Run.{noCall as none-made, aCall as call-made, aFinish as finish-made}
-use Rattle.run.proofs.Demands as run
+use Rattle.semantics.specs.declared.Builder.{Builder}
+use Rattle.semantics.specs.Record.{State, Call, noContainer}
+use Rattle.semantics.specs.Tree.{Tree, encode}
+use Rattle.semantics.specs.Run.{Fresh, valueBytes, kept, keptDictionary, Made, FinishedCalls}
+use Rattle.semantics.specs.Run.{noCall as none-made, aCall as call-made, aFinish as finish-made}
+use Rattle.semantics.proofs.Demands as run
 use Rattle.builder.specs.Calls.{state, freshOf, Chain, noCall, aCall, aFinish, FinishedChain}
 
 -- the builder that `new` made is fresh
@@ -20,7 +20,7 @@ pub new-fresh : {b : Builder} (u : Bool) → b ≡ freshOf u → Fresh b
 unfolding freshOf
 new-fresh u e = rw e (record { value = refl; entries = refl; depth = refl; dictionary = refl; finished = refl; containers = length-replicate 64 noContainer })
 
--- calls made by their contracts are made as `run` says
+-- calls made by their contracts are made as `semantics` says
 pub chain-made : {s u : State} {cs : List Call} {d : List ℕ} → Chain s cs u d → Made s cs u d
 chain-made noCall = none-made
 chain-made (aCall f h m) = call-made f (λ i. state (h .0 i .builder) (h .1 i)) (chain-made m)

@@ -1,14 +1,13 @@
 -- What a call sees of the record: the innermost container, its parent, the chain of marks.
-use mathlib.Core.Path.{_≡_, refl, sym, _∙_, ap}
-use mathlib.Core.Bool.{Bool, true, false, cond, _&&_}
-use mathlib.Core.List.{List, []}
-use Prim.Native.Nat.{ℕ, zero, suc, _+_, _-_, _≤_, _<_}
+use mathlib.Core.Path.{_≡_, refl, sym, _∙_}
+use mathlib.Core.Bool.{Bool, true, false, _&&_}
+use mathlib.Core.List.{List}
+use Prim.Native.Nat.{ℕ, zero, suc, _-_, _≤_, _<_}
 use native.Mathlib.Omega.{arith}
-use lib.Dec.{leb, ltb}
-use lib.ListN.{length, getD, List·getD-eq-default}
+use lib.ListN.{length, List·getD-eq-default}
 use borrow.Author.Tests.{lt-ltb, le-ltb, le-leb, lt-leb}
-use Rattle.run.specs.declared.Container.{Container}
-use Rattle.run.specs.Record.{noContainer, containerAt, innermost, parentOf, under, rising, chained}
+use Rattle.semantics.specs.declared.Container.{Container}
+use Rattle.semantics.specs.Record.{noContainer, containerAt, innermost, parentOf, under, rising, chained}
 
 -- ---- the innermost of d, and its parent
 

@@ -6,10 +6,10 @@ use Prim.Native.Nat.{ℕ}
 use lib.Dec.{eqb}
 use lib.ListN.{replicate, take}
 use Rattle.metadata.specs.Calls.{fresh}
-use Rattle.run.specs.declared.Builder.{Builder}
-use Rattle.run.specs.Record.{Storage, State, Call, finish, noContainer}
-use Rattle.run.specs.Step.{Outcome, step}
-use Rattle.run.specs.Run.{Fresh, isFinish}
+use Rattle.semantics.specs.declared.Builder.{Builder}
+use Rattle.semantics.specs.Record.{Storage, State, Call, finish, noContainer}
+use Rattle.semantics.specs.Step.{Outcome, step}
+use Rattle.semantics.specs.Run.{Fresh, isFinish}
 use Rattle.builder.specs.declared.Answer.{Answer}
 use Rattle.builder.specs.declared.Answer.the-variants.{Done, Refused}
 use Rattle.builder.specs.declared.Called.{Called}

@@ -1,2 +1,2 @@
--- What a call gives back and leaves behind, by the step of `run`.
+-- What a call gives back and leaves behind, by the step of `semantics`.
 pub mod Calls

@@ -1,28 +1,30 @@
 // The calls over the whole record, by value: each picks what it sees of the record, calls its piece, and puts the result back.
+// Derived from the methods of `VariantBuilder`, `ListBuilder` and `ObjectBuilder` of parquet-variant 60.1.0: see lib.rt and NOTICE.
+// Changed: written in Rattle.
 use crate::Called;
 use crate::FinishAnswer;
 use crate::FinishCalled;
 use crate::view::answer_of;
 use crate::view::called;
 use crate::view::view_of;
-use pieces::append_bytes_over;
-use pieces::append_uuid_over;
-use pieces::append_value_over;
-use pieces::close_over;
-use pieces::finish_over;
-use pieces::open_over;
-use pieces::register;
-use pieces::rollback_over;
-use run::Builder;
-use run::Container;
-use table::unique_number;
+use actions::append_bytes_over;
+use actions::append_uuid_over;
+use actions::append_value_over;
+use actions::close_over;
+use actions::finish_over;
+use actions::open_over;
+use actions::register;
+use actions::rollback_over;
+use refusals::unique_number;
+use semantics::Builder;
+use semantics::Container;
 use value::variant::Variant;
 use value::variant::VariantBytes;
 ghost use mathlib.Core.Path.{_≡_};
 ghost use mathlib.Core.Bool.{false, true};
-ghost use Rattle.run.specs.Record.{append as appendOf, bytes as bytesOf, close as closeOf, finish as finishOf, fixed, openIn, register as registerOf, rollBack, uniqueness, uuid as uuidOf, storageOf};
-ghost use Rattle.run.specs.Step.{step};
-ghost use Rattle.table.specs.Decide.{nameOf};
+ghost use Rattle.semantics.specs.Record.{append as appendOf, bytes as bytesOf, close as closeOf, finish as finishOf, fixed, openIn, register as registerOf, rollBack, uniqueness, uuid as uuidOf, storageOf};
+ghost use Rattle.semantics.specs.Step.{step};
+ghost use Rattle.refusals.specs.Decide.{nameOf};
 ghost use Rattle.builder.specs.Calls.{Does, Finishes, finishAnswer, state};
 
 // A name given beforehand, at the top level.
@@ -34,7 +36,9 @@ pub fn add_field_name(
     entries: &[usize],
     name: &[u8],
 ) -> Called
-    ensures { λ r. ⌜ Does r (storageOf (now (value .entry)) (now (text .exit)) (now (ends .exit)) (now (entries .entry))) (step (state b (storageOf (now (value .entry)) (now (text .entry)) (now (ends .entry)) (now (entries .entry)))) (registerOf (now (name .entry)))) ⌝ }
+    ensures { λ r. ⌜ Does r (storageOf (now (value .entry)) (now (text .exit)) (now (ends .exit)) (now (entries .entry)))
+        (step (state b (storageOf (now (value .entry)) (now (text .entry)) (now (ends .entry)) (now (entries .entry))))
+        (registerOf (now (name .entry)))) ⌝ }
 {
     let v = view_of(b);
     let r = register(v, value, text, ends, entries, name);
@@ -52,7 +56,9 @@ pub fn append_value(
     name: &[u8],
     x: Variant,
 ) -> Called
-    ensures { λ r. ⌜ Does r (storageOf (now (value .exit)) (now (text .exit)) (now (ends .exit)) (now (entries .exit))) (step (state b (storageOf (now (value .entry)) (now (text .entry)) (now (ends .entry)) (now (entries .entry)))) (appendOf (nameOf named (now (name .entry))) (fixed x))) ⌝ }
+    ensures { λ r. ⌜ Does r (storageOf (now (value .exit)) (now (text .exit)) (now (ends .exit)) (now (entries .exit)))
+        (step (state b (storageOf (now (value .entry)) (now (text .entry)) (now (ends .entry)) (now (entries .entry))))
+        (appendOf (nameOf named (now (name .entry))) (fixed x))) ⌝ }
 {
     let v = view_of(b);
     let r = append_value_over(v, value, text, ends, entries, named, name, x);
@@ -71,7 +77,9 @@ pub fn append_bytes(
     kind: VariantBytes,
     bytes: &[u8],
 ) -> Called
-    ensures { λ r. ⌜ Does r (storageOf (now (value .exit)) (now (text .exit)) (now (ends .exit)) (now (entries .exit))) (step (state b (storageOf (now (value .entry)) (now (text .entry)) (now (ends .entry)) (now (entries .entry)))) (appendOf (nameOf named (now (name .entry))) (bytesOf kind (now (bytes .entry))))) ⌝ }
+    ensures { λ r. ⌜ Does r (storageOf (now (value .exit)) (now (text .exit)) (now (ends .exit)) (now (entries .exit)))
+        (step (state b (storageOf (now (value .entry)) (now (text .entry)) (now (ends .entry)) (now (entries .entry))))
+        (appendOf (nameOf named (now (name .entry))) (bytesOf kind (now (bytes .entry))))) ⌝ }
 {
     let v = view_of(b);
     let r = append_bytes_over(v, value, text, ends, entries, named, name, kind, bytes);
@@ -88,7 +96,9 @@ pub fn append_uuid(
     name: &[u8],
     uuid: [u8; 16],
 ) -> Called
-    ensures { λ r. ⌜ Does r (storageOf (now (value .exit)) (now (text .exit)) (now (ends .exit)) (now (entries .exit))) (step (state b (storageOf (now (value .entry)) (now (text .entry)) (now (ends .entry)) (now (entries .entry)))) (appendOf (nameOf named (now (name .entry))) (uuidOf uuid))) ⌝ }
+    ensures { λ r. ⌜ Does r (storageOf (now (value .exit)) (now (text .exit)) (now (ends .exit)) (now (entries .exit)))
+        (step (state b (storageOf (now (value .entry)) (now (text .entry)) (now (ends .entry)) (now (entries .entry))))
+        (appendOf (nameOf named (now (name .entry))) (uuidOf uuid))) ⌝ }
 {
     let v = view_of(b);
     let r = append_uuid_over(v, value, text, ends, entries, named, name, uuid);
@@ -104,7 +114,9 @@ pub fn new_list(
     named: bool,
     name: &[u8],
 ) -> Called
-    ensures { λ r. ⌜ Does r (storageOf (now (value .entry)) (now (text .exit)) (now (ends .exit)) (now (entries .exit))) (step (state b (storageOf (now (value .entry)) (now (text .entry)) (now (ends .entry)) (now (entries .entry)))) (openIn (nameOf named (now (name .entry))) false)) ⌝ }
+    ensures { λ r. ⌜ Does r (storageOf (now (value .entry)) (now (text .exit)) (now (ends .exit)) (now (entries .exit)))
+        (step (state b (storageOf (now (value .entry)) (now (text .entry)) (now (ends .entry)) (now (entries .entry))))
+        (openIn (nameOf named (now (name .entry))) false)) ⌝ }
 {
     new_container(b, value, text, ends, entries, named, name, false)
 }
@@ -118,7 +130,9 @@ pub fn new_object(
     named: bool,
     name: &[u8],
 ) -> Called
-    ensures { λ r. ⌜ Does r (storageOf (now (value .entry)) (now (text .exit)) (now (ends .exit)) (now (entries .exit))) (step (state b (storageOf (now (value .entry)) (now (text .entry)) (now (ends .entry)) (now (entries .entry)))) (openIn (nameOf named (now (name .entry))) true)) ⌝ }
+    ensures { λ r. ⌜ Does r (storageOf (now (value .entry)) (now (text .exit)) (now (ends .exit)) (now (entries .exit)))
+        (step (state b (storageOf (now (value .entry)) (now (text .entry)) (now (ends .entry)) (now (entries .entry))))
+        (openIn (nameOf named (now (name .entry))) true)) ⌝ }
 {
     new_container(b, value, text, ends, entries, named, name, true)
 }
@@ -133,7 +147,9 @@ fn new_container(
     name: &[u8],
     object: bool,
 ) -> Called
-    ensures { λ r. ⌜ Does r (storageOf (now (value .entry)) (now (text .exit)) (now (ends .exit)) (now (entries .exit))) (step (state b (storageOf (now (value .entry)) (now (text .entry)) (now (ends .entry)) (now (entries .entry)))) (openIn (nameOf named (now (name .entry))) object)) ⌝ }
+    ensures { λ r. ⌜ Does r (storageOf (now (value .entry)) (now (text .exit)) (now (ends .exit)) (now (entries .exit)))
+        (step (state b (storageOf (now (value .entry)) (now (text .entry)) (now (ends .entry)) (now (entries .entry))))
+        (openIn (nameOf named (now (name .entry))) object)) ⌝ }
 {
     let v = view_of(b);
     let r = open_over(v, value, text, ends, entries, named, name, object);
@@ -166,7 +182,8 @@ pub fn close(
     ends: &[usize],
     entries: &mut [usize],
 ) -> Called
-    ensures { λ r. ⌜ Does r (storageOf (now (value .exit)) (now (text .entry)) (now (ends .entry)) (now (entries .exit))) (step (state b (storageOf (now (value .entry)) (now (text .entry)) (now (ends .entry)) (now (entries .entry)))) closeOf) ⌝ }
+    ensures { λ r. ⌜ Does r (storageOf (now (value .exit)) (now (text .entry)) (now (ends .entry)) (now (entries .exit)))
+        (step (state b (storageOf (now (value .entry)) (now (text .entry)) (now (ends .entry)) (now (entries .entry)))) closeOf) ⌝ }
 {
     let v = view_of(b);
     let r = close_over(v, value, text, ends, entries);
@@ -180,7 +197,8 @@ pub fn rollback(
     ends: &[usize],
     entries: &mut [usize],
 ) -> Called
-    ensures { λ r. ⌜ Does r (storageOf (now (value .entry)) (now (text .entry)) (now (ends .entry)) (now (entries .exit))) (step (state b (storageOf (now (value .entry)) (now (text .entry)) (now (ends .entry)) (now (entries .entry)))) rollBack) ⌝ }
+    ensures { λ r. ⌜ Does r (storageOf (now (value .entry)) (now (text .entry)) (now (ends .entry)) (now (entries .exit)))
+        (step (state b (storageOf (now (value .entry)) (now (text .entry)) (now (ends .entry)) (now (entries .entry)))) rollBack) ⌝ }
 {
     let v = view_of(b);
     let r = rollback_over(v, value, text, ends, entries);
@@ -196,7 +214,8 @@ pub fn with_validate_unique_fields(
     entries: &[usize],
     unique: bool,
 ) -> Called
-    ensures { λ r. ⌜ Does r (storageOf (now (value .entry)) (now (text .entry)) (now (ends .entry)) (now (entries .entry))) (step (state b (storageOf (now (value .entry)) (now (text .entry)) (now (ends .entry)) (now (entries .entry)))) (uniqueness unique)) ⌝ }
+    ensures { λ r. ⌜ Does r (storageOf (now (value .entry)) (now (text .entry)) (now (ends .entry)) (now (entries .entry)))
+        (step (state b (storageOf (now (value .entry)) (now (text .entry)) (now (ends .entry)) (now (entries .entry)))) (uniqueness unique)) ⌝ }
 {
     let v = view_of(b);
     let n = unique_number(v, value, text, ends, entries);
@@ -240,7 +259,10 @@ pub fn finish(
     entries: &[usize],
     out: &mut [u8],
 ) -> FinishCalled
-    ensures { λ r. ⌜ Finishes r (storageOf (now (value .entry)) (now (text .entry)) (now (ends .entry)) (now (entries .entry))) (now (out .exit)) (step (state b (storageOf (now (value .entry)) (now (text .entry)) (now (ends .entry)) (now (entries .entry)))) (finishOf (now (out .entry)))) ⌝ }
+    ensures { λ r. ⌜ Finishes r (storageOf (now (value .entry)) (now (text .entry)) (now (ends .entry)) (now (entries .entry)))
+        (now (out .exit))
+        (step (state b (storageOf (now (value .entry)) (now (text .entry)) (now (ends .entry)) (now (entries .entry))))
+        (finishOf (now (out .entry)))) ⌝ }
 {
     let v = view_of(b);
     let r = finish_over(v, value, text, ends, entries, out);

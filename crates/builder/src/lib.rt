@@ -31,7 +31,7 @@ pub use calls::new_list;
 pub use calls::new_object;
 pub use calls::rollback;
 pub use calls::with_validate_unique_fields;
-use run::Builder;
+use semantics::Builder;
 pub use view::new;
 
 pub enum Answer {

@@ -1,15 +1,15 @@
 // The record, and what a call sees of it.
 use crate::Answer;
 use crate::Called;
-use pieces::Moved;
-use run::Builder;
-use run::Container;
-use run::Counts;
-use run::ParentEntry;
-use run::View;
+use actions::Moved;
+use semantics::Builder;
+use semantics::Container;
+use semantics::Counts;
+use semantics::ParentEntry;
+use semantics::View;
 ghost use mathlib.Core.Path.{_≡_};
-ghost use Rattle.run.specs.Record.{chained, innermost, noContainer, parentOf, viewOf};
-ghost use Rattle.run.specs.Record.{under as underOf};
+ghost use Rattle.semantics.specs.Record.{chained, innermost, noContainer, parentOf, viewOf};
+ghost use Rattle.semantics.specs.Record.{under as underOf};
 ghost use Rattle.builder.specs.Calls.{answerOf, freshOf};
 
 // A fresh builder; children inherit the uniqueness mark.

@@ -14,24 +14,24 @@ use Rattle.encoding.specs.declared.slices.Placed.{Placed}
 use Rattle.encoding.specs.Slices.{Writes}
 use Rattle.value.specs.Scalar.{illFormed, scalarBytes, storedBytes}
 use Rattle.metadata.specs.Names.{Name}
-use Rattle.run.specs.declared.Builder.{Builder}
-use Rattle.run.specs.declared.Container.{Container}
-use Rattle.run.specs.declared.ParentEntry.{ParentEntry}
-use Rattle.run.specs.declared.View.{View}
-use Rattle.run.specs.Record.{Storage, Call, Scalars, fixed, bytes, append, register, scalarOf, openIn, uniqueness, finish, containerAt, noContainer, viewOf, storageOf}
-use Rattle.run.specs.Table.{scalarRows, numberOf}
-use Rattle.table.specs.Decide.{enterRows, nameOf}
-use Rattle.run.specs.Run.{Fresh}
-use Rattle.run.specs.Step.{step, after, containersAfter, marked}
-use Rattle.run.proofs.Demand1.{none-at}
-use Rattle.pieces.specs.declared.Moved.{Moved}
-use Rattle.pieces.specs.declared.Opened.{Opened}
-use Rattle.pieces.specs.declared.Ended.{Ended}
-use Rattle.pieces.specs.declared.enter.Entered.{Entered}
-use Rattle.pieces.specs.Pieces.{EntersBy, Leaves, Opens, Ends, childOf, entriesPut, parentPut}
-use Rattle.pieces.proofs.EnterLaws.{enter-clears}
-use Rattle.pieces.proofs.AppendLaws.{append-refused, append-rows, append-stays, append-writes}
-use Rattle.pieces.proofs.OpenLaws.{opens, opens-refused, registers}
+use Rattle.semantics.specs.declared.Builder.{Builder}
+use Rattle.semantics.specs.declared.Container.{Container}
+use Rattle.semantics.specs.declared.ParentEntry.{ParentEntry}
+use Rattle.semantics.specs.declared.View.{View}
+use Rattle.semantics.specs.Record.{Storage, Call, Scalars, fixed, bytes, append, register, scalarOf, openIn, uniqueness, finish, containerAt, noContainer, viewOf, storageOf}
+use Rattle.semantics.specs.Table.{scalarRows, numberOf}
+use Rattle.refusals.specs.Decide.{enterRows, nameOf}
+use Rattle.semantics.specs.Run.{Fresh}
+use Rattle.semantics.specs.Step.{step, after, containersAfter, withUnique}
+use Rattle.semantics.proofs.Demand1.{none-at}
+use Rattle.actions.specs.declared.Moved.{Moved}
+use Rattle.actions.specs.declared.Opened.{Opened}
+use Rattle.actions.specs.declared.Ended.{Ended}
+use Rattle.actions.specs.declared.enter.Entered.{Entered}
+use Rattle.actions.specs.Actions.{EntersBy, Leaves, Opens, Ends, childOf, entriesPut, parentPut}
+use Rattle.actions.proofs.EnterLaws.{enter-clears}
+use Rattle.actions.proofs.AppendLaws.{append-refused, append-rows, append-stays, append-writes}
+use Rattle.actions.proofs.OpenLaws.{opens, opens-refused, registers}
 use Rattle.builder.specs.declared.Called.{Called}
 use Rattle.builder.specs.Calls.{answerNumber, Does}
 use Rattle.builder.proofs.CallLaws as builder
@@ -187,7 +187,7 @@ module _ (ws : List ℕ) (l : Storage) (u : Bool) {v : View} {n : ℕ} (p : v �
   pub unique-open : n ≡ 0 → (0 < v .counts .depth) × (v .counts .depth ≤ 64)
   unique-open h = rw p (builder.unique-open (builderOf ws) l u p q h)
 
-  pub unique-done : {us : List ℕ} {k : Container} → n ≡ 0 → k ≡ marked (v .inner) u → PutsContainer ws us (v .counts .depth - 1) k → DoesWords 0 ws us l l (uniqueness u)
+  pub unique-done : {us : List ℕ} {k : Container} → n ≡ 0 → k ≡ withUnique (v .inner) u → PutsContainer ws us (v .counts .depth - 1) k → DoesWords 0 ws us l l (uniqueness u)
   unique-done {us} {k} h c d =
       let o = rw p at (unique-open h) in
       let y = rw p at d in

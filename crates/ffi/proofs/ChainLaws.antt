@@ -1,5 +1,5 @@
--- Word calls made one after the other are calls made (`Made`, run/specs/Run.antt), so that the demands hold of them
--- (run/proofs/Demands.antt): each gets the words and the storage that the last one left. The maker's words are a fresh builder
+-- Word calls made one after the other are calls made (`Made`, semantics/specs/Run.antt), so that the demands hold of them
+-- (semantics/proofs/Demands.antt): each gets the words and the storage that the last one left. The maker's words are a fresh builder
 -- (`new-fresh`, CallLaws.antt).
 use mathlib.Core.Path.{_≡_, refl}
 use mathlib.Core.Bool.{Bool, true, false, cond}
@@ -7,9 +7,9 @@ use mathlib.Core.List.{List, _∷_}
 use Prim.Native.Nat.{ℕ}
 use lib.Dec.{eqb}
 use lib.ListN.{take}
-use Rattle.run.specs.Record.{Storage, State, Call, finish}
-use Rattle.run.specs.Step.{step}
-use Rattle.run.specs.Run.{isFinish, Made, aCall, aFinish}
+use Rattle.semantics.specs.Record.{Storage, State, Call, finish}
+use Rattle.semantics.specs.Step.{step}
+use Rattle.semantics.specs.Run.{isFinish, Made, aCall, aFinish}
 use Rattle.ffi.specs.Words.{stateOf, DoesWords, FinishesWords}
 
 module _ {ws us : List ℕ} {l : Storage} {n : ℕ} {u : State} {cs : List Call} {d : List ℕ} where

@@ -6,12 +6,12 @@ use Prim.Native.Nat.{ℕ, zero, suc, _+_, _-_, _*_, _≤_, _<_}
 use native.Mathlib.Omega.{arith}
 use lib.ListN.{length, getD, set}
 use lib.Seq.{getD-set-other}
-use Rattle.run.specs.declared.Container.{Container}
-use Rattle.run.specs.declared.Counts.{Counts}
-use Rattle.run.specs.declared.ParentEntry.{ParentEntry}
-use Rattle.run.specs.declared.ParentEntry.the-variants.{New, Replaced}
-use Rattle.run.specs.Record.{noContainer, containerAt}
-use Rattle.ffi.specs.Words.{wordAt, flag, countsOf, parentEntryOf, containerFrom, containerOf, containersFrom, containersOf, builderOf, wordOf, tagOf, idOf, offsetOf, countsPut, containerPut, PutsCounts, PutsContainer}
+use Rattle.semantics.specs.declared.Container.{Container}
+use Rattle.semantics.specs.declared.Counts.{Counts}
+use Rattle.semantics.specs.declared.ParentEntry.{ParentEntry}
+use Rattle.semantics.specs.declared.ParentEntry.the-variants.{New, Replaced}
+use Rattle.semantics.specs.Record.{noContainer, containerAt}
+use Rattle.ffi.specs.Words.{wordAt, flag, countsOf, parentEntryOf, containerFrom, containerOf, containersFrom, containersOf, wordOf, tagOf, idOf, offsetOf, countsPut, containerPut, PutsCounts, PutsContainer}
 
 -- ---- the containers by their places
 

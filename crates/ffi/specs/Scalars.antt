@@ -10,7 +10,7 @@ use Rattle.value.specs.declared.variant.VariantBytes.{VariantBytes}
 use Rattle.value.specs.declared.variant.VariantBytes.the-variants as kinds
 use Rattle.value.specs.declared.variant.Variant.{Variant}
 use Rattle.value.specs.declared.variant.Variant.the-variants.{Null, Int8, Int16, Int32, Int64, Date, TimestampMicros, TimestampNtzMicros, TimestampNanos, TimestampNtzNanos, Decimal4, Decimal8, Decimal16, Float, Double, BooleanTrue, BooleanFalse, Time}
-use Rattle.run.specs.Record.{Scalars, fixed, bytes}
+use Rattle.semantics.specs.Record.{Scalars, fixed, bytes}
 
 -- a time past the end of the day, which number 7 refuses
 abbrev pub noScalar : Variant

@@ -7,19 +7,19 @@ use lib.Dec.{eqb}
 use lib.ListN.{getD, set}
 use Rattle.encoding.specs.Rows.{first}
 use Rattle.metadata.specs.Calls.{fresh}
-use Rattle.run.specs.declared.Builder.{Builder}
-use Rattle.run.specs.declared.Container.{Container}
-use Rattle.run.specs.declared.Counts.{Counts}
-use Rattle.run.specs.declared.ParentEntry.{ParentEntry}
-use Rattle.run.specs.declared.ParentEntry.the-variants.{New, Replaced}
-use Rattle.run.specs.Record.{Storage, State, Call, register, append, openIn, close, rollBack, uniqueness, finish, containerAt, viewOf}
-use Rattle.run.specs.Step.{step}
+use Rattle.semantics.specs.declared.Builder.{Builder}
+use Rattle.semantics.specs.declared.Container.{Container}
+use Rattle.semantics.specs.declared.Counts.{Counts}
+use Rattle.semantics.specs.declared.ParentEntry.{ParentEntry}
+use Rattle.semantics.specs.declared.ParentEntry.the-variants.{New, Replaced}
+use Rattle.semantics.specs.Record.{Storage, State, Call, register, append, openIn, close, rollBack, uniqueness, finish, containerAt, viewOf}
+use Rattle.semantics.specs.Step.{step}
 use mathlib.Core.Option.{Option}
 use Rattle.metadata.specs.Names.{Name}
-use Rattle.table.specs.Decide.{enterRows}
-use Rattle.pieces.specs.declared.enter.Entered.{Entered}
-use Rattle.pieces.specs.Pieces.{EntersBy}
-use Rattle.pieces.specs.declared.Moved.{Moved}
+use Rattle.refusals.specs.Decide.{enterRows}
+use Rattle.actions.specs.declared.enter.Entered.{Entered}
+use Rattle.actions.specs.Actions.{EntersBy}
+use Rattle.actions.specs.declared.Moved.{Moved}
 
 -- the word at place i
 abbrev pub wordAt : List ℕ → ℕ → ℕ

@@ -1,4 +1,23 @@
+// Licensed to the Apache Software Foundation (ASF) under one
+// or more contributor license agreements.  See the NOTICE file
+// distributed with this work for additional information
+// regarding copyright ownership.  The ASF licenses this file
+// to you under the Apache License, Version 2.0 (the
+// "License"); you may not use this file except in compliance
+// with the License.  You may obtain a copy of the License at
+//
+//   http://www.apache.org/licenses/LICENSE-2.0
+//
+// Unless required by applicable law or agreed to in writing,
+// software distributed under the License is distributed on an
+// "AS IS" BASIS, WITHOUT WARRANTIES OR CONDITIONS OF ANY
+// KIND, either express or implied.  See the License for the
+// specific language governing permissions and limitations
+// under the License.
+
 // The word calls. That the slices are valid and do not overlap is the caller's, and outside the proof.
+// The names are derived from the methods of `VariantBuilder`, `ListBuilder` and `ObjectBuilder` of parquet-variant 60.1.0 (see NOTICE).
+// Changed: written in Rattle, over state words.
 use crate::WORDS;
 use crate::scalars::kind_of;
 use crate::scalars::variant_of;
@@ -10,18 +29,18 @@ use crate::words::parent_of;
 use crate::words::put_container;
 use crate::words::put_counts;
 use crate::words::view_of;
-use pieces::Entered;
-use pieces::child;
-use pieces::close_over;
-use pieces::enter_over;
-use pieces::finish_over;
-use pieces::note;
-use pieces::rollback_over;
-use run::Container;
-use run::Counts;
-use run::View;
-use table::row;
-use table::unique_number;
+use actions::Entered;
+use actions::child;
+use actions::close_over;
+use actions::enter_over;
+use actions::finish_over;
+use actions::note;
+use actions::rollback_over;
+use refusals::row;
+use refusals::unique_number;
+use semantics::Container;
+use semantics::Counts;
+use semantics::View;
 use value::scalar::bytes_size;
 use value::scalar::variant_size;
 use value::scalar::write_bytes;
@@ -32,8 +51,8 @@ use value::variant::out_of_range;
 ghost use mathlib.Core.Path.{_≡_};
 ghost use mathlib.Core.Bool.{false, true};
 ghost use lib.ListN.{length};
-ghost use Rattle.run.specs.Record.{append as appendOf, close as closeOf, finish as finishOf, fixed, openIn, register as registerOf, rollBack, uniqueness, uuid as uuidOf, storageOf};
-ghost use Rattle.table.specs.Decide.{nameOf};
+ghost use Rattle.semantics.specs.Record.{append as appendOf, close as closeOf, fixed, openIn, register as registerOf, rollBack, uniqueness, uuid as uuidOf, storageOf};
+ghost use Rattle.refusals.specs.Decide.{nameOf};
 ghost use Rattle.ffi.specs.Scalars.{bytesBy, variantOf};
 ghost use Rattle.ffi.specs.Words.{DoesWords, EntersWords, FinishesWords, PutsCounts, freshCounts};
 
@@ -64,7 +83,9 @@ pub extern "C" fn variant_add_field_name(
     entries: &[usize],
     name: &[u8],
 ) -> u8
-    ensures { λ r. ⌜ DoesWords r (now (words .entry)) (now (words .exit)) (storageOf (now (value .entry)) (now (text .entry)) (now (ends .entry)) (now (entries .entry))) (storageOf (now (value .entry)) (now (text .exit)) (now (ends .exit)) (now (entries .entry))) (registerOf (now (name .entry))) ⌝ }
+    ensures { λ r. ⌜ DoesWords r (now (words .entry)) (now (words .exit))
+        (storageOf (now (value .entry)) (now (text .entry)) (now (ends .entry)) (now (entries .entry)))
+        (storageOf (now (value .entry)) (now (text .exit)) (now (ends .exit)) (now (entries .entry))) (registerOf (now (name .entry))) ⌝ }
 {
     let e = enter(
         words,
@@ -91,7 +112,9 @@ pub extern "C" fn variant_close(
     ends: &[usize],
     entries: &mut [usize],
 ) -> u8
-    ensures { λ r. ⌜ DoesWords r (now (words .entry)) (now (words .exit)) (storageOf (now (value .entry)) (now (text .entry)) (now (ends .entry)) (now (entries .entry))) (storageOf (now (value .exit)) (now (text .entry)) (now (ends .entry)) (now (entries .exit))) closeOf ⌝ }
+    ensures { λ r. ⌜ DoesWords r (now (words .entry)) (now (words .exit))
+        (storageOf (now (value .entry)) (now (text .entry)) (now (ends .entry)) (now (entries .entry)))
+        (storageOf (now (value .exit)) (now (text .entry)) (now (ends .entry)) (now (entries .exit))) closeOf ⌝ }
 {
     let v = view_of(words);
     let r = close_over(v, value, text, ends, entries);
@@ -107,7 +130,9 @@ pub extern "C" fn variant_rollback(
     ends: &[usize],
     entries: &mut [usize],
 ) -> u8
-    ensures { λ r. ⌜ DoesWords r (now (words .entry)) (now (words .exit)) (storageOf (now (value .entry)) (now (text .entry)) (now (ends .entry)) (now (entries .entry))) (storageOf (now (value .entry)) (now (text .entry)) (now (ends .entry)) (now (entries .exit))) rollBack ⌝ }
+    ensures { λ r. ⌜ DoesWords r (now (words .entry)) (now (words .exit))
+        (storageOf (now (value .entry)) (now (text .entry)) (now (ends .entry)) (now (entries .entry)))
+        (storageOf (now (value .entry)) (now (text .entry)) (now (ends .entry)) (now (entries .exit))) rollBack ⌝ }
 {
     let v = view_of(words);
     let r = rollback_over(v, value, text, ends, entries);
@@ -130,7 +155,10 @@ pub extern "C" fn variant_append_value(
     low: u64,
     scale: u8,
 ) -> u8
-    ensures { λ r. ⌜ DoesWords r (now (words .entry)) (now (words .exit)) (storageOf (now (value .entry)) (now (text .entry)) (now (ends .entry)) (now (entries .entry))) (storageOf (now (value .exit)) (now (text .exit)) (now (ends .exit)) (now (entries .exit))) (appendOf (nameOf named (now (name .entry))) (fixed (variantOf code z low scale))) ⌝ }
+    ensures { λ r. ⌜ DoesWords r (now (words .entry)) (now (words .exit))
+        (storageOf (now (value .entry)) (now (text .entry)) (now (ends .entry)) (now (entries .entry)))
+        (storageOf (now (value .exit)) (now (text .exit)) (now (ends .exit)) (now (entries .exit)))
+        (appendOf (nameOf named (now (name .entry))) (fixed (variantOf code z low scale))) ⌝ }
 {
     let c = counts_of(words);
     let x = variant_of(code, z, low, scale);
@@ -170,7 +198,10 @@ pub extern "C" fn variant_append_bytes(
     kind: u8,
     bytes: &[u8],
 ) -> u8
-    ensures { λ r. ⌜ DoesWords r (now (words .entry)) (now (words .exit)) (storageOf (now (value .entry)) (now (text .entry)) (now (ends .entry)) (now (entries .entry))) (storageOf (now (value .exit)) (now (text .exit)) (now (ends .exit)) (now (entries .exit))) (appendOf (nameOf named (now (name .entry))) (bytesBy kind (now (bytes .entry)))) ⌝ }
+    ensures { λ r. ⌜ DoesWords r (now (words .entry)) (now (words .exit))
+        (storageOf (now (value .entry)) (now (text .entry)) (now (ends .entry)) (now (entries .entry)))
+        (storageOf (now (value .exit)) (now (text .exit)) (now (ends .exit)) (now (entries .exit)))
+        (appendOf (nameOf named (now (name .entry))) (bytesBy kind (now (bytes .entry)))) ⌝ }
 {
     let c = counts_of(words);
     let k = kind_of(kind);
@@ -208,7 +239,10 @@ pub extern "C" fn variant_append_uuid(
     name: &[u8],
     uuid: &[u8; 16],
 ) -> u8
-    ensures { λ r. ⌜ DoesWords r (now (words .entry)) (now (words .exit)) (storageOf (now (value .entry)) (now (text .entry)) (now (ends .entry)) (now (entries .entry))) (storageOf (now (value .exit)) (now (text .exit)) (now (ends .exit)) (now (entries .exit))) (appendOf (nameOf named (now (name .entry))) (uuidOf (now (uuid .entry)))) ⌝ }
+    ensures { λ r. ⌜ DoesWords r (now (words .entry)) (now (words .exit))
+        (storageOf (now (value .entry)) (now (text .entry)) (now (ends .entry)) (now (entries .entry)))
+        (storageOf (now (value .exit)) (now (text .exit)) (now (ends .exit)) (now (entries .exit)))
+        (appendOf (nameOf named (now (name .entry))) (uuidOf (now (uuid .entry)))) ⌝ }
 {
     sixteen(uuid);
     let c = counts_of(words);
@@ -244,7 +278,10 @@ pub extern "C" fn variant_new_list(
     named: bool,
     name: &[u8],
 ) -> u8
-    ensures { λ r. ⌜ DoesWords r (now (words .entry)) (now (words .exit)) (storageOf (now (value .entry)) (now (text .entry)) (now (ends .entry)) (now (entries .entry))) (storageOf (now (value .entry)) (now (text .exit)) (now (ends .exit)) (now (entries .exit))) (openIn (nameOf named (now (name .entry))) false) ⌝ }
+    ensures { λ r. ⌜ DoesWords r (now (words .entry)) (now (words .exit))
+        (storageOf (now (value .entry)) (now (text .entry)) (now (ends .entry)) (now (entries .entry)))
+        (storageOf (now (value .entry)) (now (text .exit)) (now (ends .exit)) (now (entries .exit)))
+        (openIn (nameOf named (now (name .entry))) false) ⌝ }
 {
     new_container(words, value, text, ends, entries, named, name, false)
 }
@@ -259,7 +296,10 @@ pub extern "C" fn variant_new_object(
     named: bool,
     name: &[u8],
 ) -> u8
-    ensures { λ r. ⌜ DoesWords r (now (words .entry)) (now (words .exit)) (storageOf (now (value .entry)) (now (text .entry)) (now (ends .entry)) (now (entries .entry))) (storageOf (now (value .entry)) (now (text .exit)) (now (ends .exit)) (now (entries .exit))) (openIn (nameOf named (now (name .entry))) true) ⌝ }
+    ensures { λ r. ⌜ DoesWords r (now (words .entry)) (now (words .exit))
+        (storageOf (now (value .entry)) (now (text .entry)) (now (ends .entry)) (now (entries .entry)))
+        (storageOf (now (value .entry)) (now (text .exit)) (now (ends .exit)) (now (entries .exit)))
+        (openIn (nameOf named (now (name .entry))) true) ⌝ }
 {
     new_container(words, value, text, ends, entries, named, name, true)
 }
@@ -274,7 +314,10 @@ fn new_container(
     name: &[u8],
     object: bool,
 ) -> u8
-    ensures { λ r. ⌜ DoesWords r (now (words .entry)) (now (words .exit)) (storageOf (now (value .entry)) (now (text .entry)) (now (ends .entry)) (now (entries .entry))) (storageOf (now (value .entry)) (now (text .exit)) (now (ends .exit)) (now (entries .exit))) (openIn (nameOf named (now (name .entry))) object) ⌝ }
+    ensures { λ r. ⌜ DoesWords r (now (words .entry)) (now (words .exit))
+        (storageOf (now (value .entry)) (now (text .entry)) (now (ends .entry)) (now (entries .entry)))
+        (storageOf (now (value .entry)) (now (text .exit)) (now (ends .exit)) (now (entries .exit)))
+        (openIn (nameOf named (now (name .entry))) object) ⌝ }
 {
     let c = counts_of(words);
     let e = enter(
@@ -309,7 +352,9 @@ pub extern "C" fn variant_with_validate_unique_fields(
     entries: &[usize],
     unique: bool,
 ) -> u8
-    ensures { λ r. ⌜ DoesWords r (now (words .entry)) (now (words .exit)) (storageOf (now (value .entry)) (now (text .entry)) (now (ends .entry)) (now (entries .entry))) (storageOf (now (value .entry)) (now (text .entry)) (now (ends .entry)) (now (entries .entry))) (uniqueness unique) ⌝ }
+    ensures { λ r. ⌜ DoesWords r (now (words .entry)) (now (words .exit))
+        (storageOf (now (value .entry)) (now (text .entry)) (now (ends .entry)) (now (entries .entry)))
+        (storageOf (now (value .entry)) (now (text .entry)) (now (ends .entry)) (now (entries .entry))) (uniqueness unique) ⌝ }
 {
     let v = view_of(words);
     let n = unique_number(v, value, text, ends, entries);
@@ -342,7 +387,9 @@ pub extern "C" fn variant_finish(
     out: &mut [u8],
     written: &mut usize,
 ) -> u8
-    ensures { λ r. ⌜ FinishesWords r (now (words .entry)) (now (words .exit)) (storageOf (now (value .entry)) (now (text .entry)) (now (ends .entry)) (now (entries .entry))) (now (out .entry)) (now (out .exit)) (now (written .entry)) (now (written .exit)) ⌝ }
+    ensures { λ r. ⌜ FinishesWords r (now (words .entry)) (now (words .exit))
+        (storageOf (now (value .entry)) (now (text .entry)) (now (ends .entry)) (now (entries .entry))) (now (out .entry)) (now (out .exit))
+        (now (written .entry)) (now (written .exit)) ⌝ }
 {
     let v = view_of(words);
     let r = finish_over(v, value, text, ends, entries, out);
@@ -370,7 +417,9 @@ fn enter(
     own: u8,
     size: usize,
 ) -> Entered
-    ensures { λ r. ⌜ EntersWords (now (words .entry)) (now (words .exit)) (storageOf (now (value .entry)) (now (text .entry)) (now (ends .entry)) (now (entries .entry))) (nameOf named (now (name .entry))) into opens own size r (now (text .exit)) (now (ends .exit)) ⌝ }
+    ensures { λ r. ⌜ EntersWords (now (words .entry)) (now (words .exit))
+        (storageOf (now (value .entry)) (now (text .entry)) (now (ends .entry)) (now (entries .entry))) (nameOf named (now (name .entry)))
+        into opens own size r (now (text .exit)) (now (ends .exit)) ⌝ }
 {
     let c = counts_of(words);
     let k = inner_of(words, c.depth);

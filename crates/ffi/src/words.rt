@@ -1,15 +1,15 @@
 // The state words read and written, piece by piece.
 use crate::WORDS;
-use pieces::Moved;
-use run::Container;
-use run::Counts;
-use run::ParentEntry;
-use run::View;
+use actions::Moved;
+use semantics::Container;
+use semantics::Counts;
+use semantics::ParentEntry;
+use semantics::View;
 ghost use mathlib.Core.Path.{_≡_};
 ghost use Prim.Native.Nat.{_-_, _<_};
 ghost use lib.ListN.{length};
-ghost use Rattle.run.specs.Record.{chained, containerAt, innermost, noContainer, parentOf, viewOf};
-ghost use Rattle.run.specs.Record.{under as underOf};
+ghost use Rattle.semantics.specs.Record.{chained, containerAt, innermost, noContainer, parentOf, viewOf};
+ghost use Rattle.semantics.specs.Record.{under as underOf};
 ghost use Rattle.ffi.specs.Words.{builderOf, containersOf, countsOf, Puts, PutsContainer, PutsCounts, flag as flagOf, idOf, offsetOf, parentEntryOf, tagOf, wordOf};
 
 // How many words there are.

@@ -1,7 +1,7 @@
 use borrow.Author.Needs.{needs}
 use mathlib.Core.Path.{refl}
 use Rattle.builder.proofs.CallLaws.{does-moved}
-use Rattle.run.specs.Record.{register, storageOf}
+use Rattle.semantics.specs.Record.{register, storageOf}
 use Rattle.builder.proofs.calls.add_field_name.Statement.{statement}
 use Rattle.builder.proofs.calls.add_field_name.Tie as tie
 

@@ -1,8 +1,8 @@
 use borrow.Author.Needs.{needs}
 use mathlib.Core.Path.{refl}
-use Rattle.table.specs.Decide.{nameOf}
+use Rattle.refusals.specs.Decide.{nameOf}
 use Rattle.builder.proofs.CallLaws.{does-moved}
-use Rattle.run.specs.Record.{append, uuid, storageOf}
+use Rattle.semantics.specs.Record.{append, uuid, storageOf}
 use Rattle.builder.proofs.calls.append_uuid.Statement.{statement}
 use Rattle.builder.proofs.calls.append_uuid.Tie as tie
 

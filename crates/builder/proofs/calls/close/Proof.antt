@@ -1,7 +1,7 @@
 use borrow.Author.Needs.{needs}
 use mathlib.Core.Path.{refl}
 use Rattle.builder.proofs.CallLaws.{does-moved}
-use Rattle.run.specs.Record.{close, storageOf}
+use Rattle.semantics.specs.Record.{close, storageOf}
 use Rattle.builder.proofs.calls.close.Statement.{statement}
 use Rattle.builder.proofs.calls.close.Tie as tie
 

@@ -1,5 +1,5 @@
 use borrow.Author.Needs.{needs}
-use Rattle.run.specs.Record.{storageOf}
+use Rattle.semantics.specs.Record.{storageOf}
 use Rattle.builder.proofs.CallLaws.{does-finished}
 use Rattle.builder.proofs.calls.finish.Statement.{statement}
 use Rattle.builder.proofs.calls.finish.Tie as tie

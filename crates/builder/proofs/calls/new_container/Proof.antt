@@ -1,7 +1,7 @@
 use borrow.Author.Needs.{needs}
 use native.Mathlib.Omega.{arith}
-use Rattle.run.specs.Record.{storageOf}
-use Rattle.table.specs.Decide.{nameOf}
+use Rattle.semantics.specs.Record.{storageOf}
+use Rattle.refusals.specs.Decide.{nameOf}
 use Rattle.builder.proofs.CallLaws.{does-refused, does-opened, opened-deep}
 use Rattle.builder.proofs.calls.new_container.Statement.{statement}
 use Rattle.builder.proofs.calls.new_container.Tie as tie

@@ -1,8 +1,8 @@
 use borrow.Author.Needs.{needs}
 use mathlib.Core.Path.{refl}
 use native.Mathlib.Omega.{arith}
-use Rattle.run.specs.Step.{marked}
-use Rattle.run.specs.Record.{storageOf}
+use Rattle.semantics.specs.Step.{withUnique}
+use Rattle.semantics.specs.Record.{storageOf}
 use Rattle.builder.proofs.CallLaws.{unique-refused, unique-marked, unique-open}
 use Rattle.builder.proofs.calls.with_validate_unique_fields.Statement.{statement}
 use Rattle.builder.proofs.calls.with_validate_unique_fields.Tie as tie
@@ -36,7 +36,7 @@ array-set-from-cs c =
     omega (arith, unique-open (a .b) (storageOf (a .value .now) (a .text .now) (a .ends .now) (a .entries .now)) (a .unique) (v .view-of .ensures) (n .unique-number .ensures) (c .before .before .before .before .if1 .left))
 
 returns-2 : tie.Need-returns-2
-unfolding marked
+unfolding withUnique
 returns-2 c =
     let n = c .before .before .before .before .before .before in
     let v = n .before in

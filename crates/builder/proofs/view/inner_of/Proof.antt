@@ -1,6 +1,6 @@
 use Rattle.builder.proofs.ViewLaws.{inner-none, inner-far, inner-at}
 use native.Mathlib.Omega.{arith}
-use mathlib.Core.Path.{_≡_, sym, _∙_}
+use mathlib.Core.Path.{_∙_}
 use lib.ListN.{length-map}
 use borrow.Author.Needs.{needs}
 use Rattle.builder.proofs.view.inner_of.Statement.{statement}

@@ -1,6 +1,6 @@
 use borrow.Author.Needs.{needs}
-use Rattle.run.specs.Record.{storageOf}
-use Rattle.table.specs.Decide.{nameOf}
+use Rattle.semantics.specs.Record.{storageOf}
+use Rattle.refusals.specs.Decide.{nameOf}
 use Rattle.ffi.proofs.CallLaws.{enters-done, enters-refused}
 use Rattle.ffi.proofs.calls.enter.Statement.{statement}
 use Rattle.ffi.proofs.calls.enter.Tie as tie

@@ -1,5 +1,5 @@
 use borrow.Author.Needs.{needs}
-use Rattle.run.specs.Record.{storageOf}
+use Rattle.semantics.specs.Record.{storageOf}
 use Rattle.ffi.proofs.CallLaws.{does-registered}
 use Rattle.ffi.proofs.calls.variant_add_field_name.Statement.{statement}
 use Rattle.ffi.proofs.calls.variant_add_field_name.Tie as tie

@@ -2,8 +2,8 @@ use borrow.Author.Needs.{needs}
 use mathlib.Core.Path.{_∙_, ap}
 use mathlib.Core.Bool.{cond}
 use lib.Dec.{ltb}
-use Rattle.run.specs.Record.{storageOf}
-use Rattle.table.specs.Decide.{nameOf}
+use Rattle.semantics.specs.Record.{storageOf}
+use Rattle.refusals.specs.Decide.{nameOf}
 use Rattle.ffi.proofs.CallLaws.{bytes-appended, bytes-refused}
 use Rattle.ffi.proofs.calls.variant_append_bytes.Statement.{statement}
 use Rattle.ffi.proofs.calls.variant_append_bytes.Tie as tie

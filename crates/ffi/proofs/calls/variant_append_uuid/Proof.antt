@@ -1,8 +1,8 @@
 use borrow.Author.Needs.{needs}
-use Rattle.run.specs.Record.{uuid, storageOf}
-use Rattle.table.specs.Decide.{nameOf}
-use Rattle.table.proofs.RowLaws.{own-none}
-use Rattle.pieces.proofs.AppendLaws.{uuid-size, writes-uuid}
+use Rattle.semantics.specs.Record.{uuid, storageOf}
+use Rattle.refusals.specs.Decide.{nameOf}
+use Rattle.refusals.proofs.RowLaws.{own-none}
+use Rattle.actions.proofs.AppendLaws.{uuid-size, writes-uuid}
 use Rattle.ffi.proofs.CallLaws.{does-appended, does-refused}
 use Rattle.ffi.proofs.calls.variant_append_uuid.Statement.{statement}
 use Rattle.ffi.proofs.calls.variant_append_uuid.Tie as tie

@@ -1,9 +1,9 @@
 use borrow.Author.Needs.{needs}
 use mir.Syntax.{w64}
 use mir.ValLaws.{toZ-ofZ}
-use Rattle.run.specs.Record.{fixed, storageOf}
-use Rattle.table.specs.Decide.{nameOf}
-use Rattle.table.proofs.RowLaws.{own-row}
+use Rattle.semantics.specs.Record.{fixed, storageOf}
+use Rattle.refusals.specs.Decide.{nameOf}
+use Rattle.refusals.proofs.RowLaws.{own-row}
 use Rattle.ffi.specs.Scalars.{variantOf}
 use Rattle.ffi.proofs.CallLaws.{does-appended, does-refused}
 use Rattle.ffi.proofs.calls.variant_append_value.Statement.{statement}

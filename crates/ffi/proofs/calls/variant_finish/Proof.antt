@@ -1,4 +1,4 @@
-use Rattle.run.specs.Record.{storageOf}
+use Rattle.semantics.specs.Record.{storageOf}
 use Rattle.ffi.proofs.CallLaws.{finish-refused, finish-done}
 use borrow.Author.Needs.{needs}
 use Rattle.ffi.proofs.calls.variant_finish.Statement.{statement}

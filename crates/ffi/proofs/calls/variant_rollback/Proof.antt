@@ -1,5 +1,5 @@
 use mathlib.Core.Path.{refl}
-use Rattle.run.specs.Record.{rollBack, storageOf}
+use Rattle.semantics.specs.Record.{rollBack, storageOf}
 use Rattle.ffi.proofs.CallLaws.{does-moved}
 use borrow.Author.Needs.{needs}
 use Rattle.ffi.proofs.calls.variant_rollback.Statement.{statement}

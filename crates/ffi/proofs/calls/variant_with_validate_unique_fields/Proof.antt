@@ -1,7 +1,7 @@
 use mathlib.Core.Path.{refl}
 use native.Mathlib.Omega.{arith}
-use Rattle.run.specs.Step.{marked}
-use Rattle.run.specs.Record.{storageOf}
+use Rattle.semantics.specs.Step.{withUnique}
+use Rattle.semantics.specs.Record.{storageOf}
 use Rattle.ffi.proofs.CallLaws.{unique-refused, unique-open, unique-done}
 use borrow.Author.Needs.{needs}
 use Rattle.ffi.proofs.calls.variant_with_validate_unique_fields.Statement.{statement}
@@ -30,7 +30,7 @@ put-container-requires c κs =
     omega (arith, d .0, d .1)
 
 returns-2 : tie.Need-returns-2
-unfolding marked
+unfolding withUnique
 returns-2 c =
     let r = c .before .before .before .before .before in
     let v = r .before in

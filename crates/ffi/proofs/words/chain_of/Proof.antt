@@ -1,7 +1,7 @@
 -- The marks are compared from the innermost outwards.
 use mathlib.Core.Path.{refl, _∙_}
 use native.Mathlib.Omega.{arith}
-use Rattle.run.specs.Record.{rising}
+use Rattle.semantics.specs.Record.{rising}
 use Rattle.builder.proofs.ViewLaws.{Rises, rises-again, rises-end, chain-far, chain-none, chain-some}
 use Rattle.ffi.specs.Words.{containersOf}
 use Rattle.ffi.proofs.words.chain_of.Statement.{statement}

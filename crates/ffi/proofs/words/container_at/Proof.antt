@@ -1,7 +1,7 @@
 use mathlib.Core.Path.{sym, _∙_}
 use native.Mathlib.Omega.{arith}
 use lib.ListN.{List·getD-eq-default}
-use Rattle.run.specs.Record.{noContainer}
+use Rattle.semantics.specs.Record.{noContainer}
 use Rattle.ffi.specs.Words.{containerFrom, containersOf}
 use Rattle.ffi.proofs.WordLaws.{container-at, containers-length}
 use borrow.Author.Needs.{needs}

@@ -1,0 +1,190 @@
+-- A name added where it is new, and the entry of the value that comes.
+use mathlib.Core.Path.{_≡_, refl, sym, _∙_, ap}
+use mathlib.Core.Bool.{Bool, true, false, cond, not, _&&_, true≢false}
+use mathlib.Core.List.{List}
+use mathlib.Core.Option.{Option, none, some}
+use Prim.Native.Nat.{ℕ, _+_, _*_, _^_, _<_}
+use native.Mathlib.Omega.{arith}
+use lib.ListN.{length, set}
+use lib.Dec.{ltb}
+use borrow.Author.Tests.{eq-eqb, ne-eqb, leb-false, leb-true, lt-ltb, not-false, not-true}
+use Rattle.encoding.specs.Rows.{first}
+use Rattle.encoding.specs.Slices.{counted, fits}
+use Rattle.metadata.specs.declared.MetadataBuilder.{MetadataBuilder}
+use Rattle.metadata.specs.declared.Added.{Added}
+use Rattle.metadata.specs.Names.{Name}
+use Rattle.metadata.specs.Calls.{Adds, hasRoom}
+use Rattle.container.specs.declared.Noted.{Noted as Put}
+use Rattle.container.specs.Entries.{Notes, entryAt, roomFor}
+use Rattle.semantics.specs.declared.ParentEntry.the-variants.{New, Replaced}
+use Rattle.semantics.specs.declared.View.{View}
+use Rattle.semantics.specs.declared.Counts.{Counts}
+use Rattle.semantics.specs.Record.{Storage, Call, isOpen, innerSize, uniqueNow}
+use Rattle.semantics.specs.Table.{numberOf, held, live, liveUnder, namesFull, entriesFull}
+use Rattle.semantics.specs.Step.{dictionaryWith, endsWith, entriesWith, parentWith, textWith, withCounts}
+use Rattle.refusals.specs.declared.Field.{Field}
+use Rattle.refusals.specs.declared.Decided.{Decided}
+use Rattle.refusals.specs.Decide.{Decides, enterRows, fieldOf, isNew, nameOf}
+use Rattle.refusals.proofs.RowLaws.{enter-late}
+use Rattle.refusals.proofs.ViewLaws.{both}
+use Rattle.actions.specs.declared.enter.Entered.{Entered}
+use Rattle.actions.specs.Actions.{EntersBy, Leaves, Registers, entriesPut, oneMore, parentPut}
+
+-- ---- a call that is refused changes nothing
+
+pub refuses : {v : View} {l : Storage} {c : Call} {n : ℕ} → n ≡ numberOf v l c → (n ≡ 0 → ⊥) → Leaves v l c (record { counts = v .counts; number = n }) l
+refuses {v} {l} {c} {n} e z = let z' = ne-eqb (numberOf v l c) 0 (λ p. z (e ∙ p)) in record { number = e; counts = rw z'; storage = rw z' }
+
+-- ---- a name
+
+-- one that is new, added
+pub registers-new : {new : Bool} {m : MetadataBuilder} {text ends : List ℕ} {name : Name} {r : Added} {textAfter endsAfter : List ℕ}
+    → new ≡ true → Adds m text ends name r textAfter endsAfter → Registers new m text ends name (r .metadata) textAfter endsAfter
+registers-new e a = record { metadata = rw e (a .metadata); textLeft = rw e (a .textLeft); endsLeft = rw e (a .endsLeft) }
+
+-- what a name's adding leaves, where the names are not full for it
+pub record Named (v : View) (l : Storage) (nm : Option Name) (m : MetadataBuilder) (text ends : List ℕ) : Type 0 where
+  pub dictionary : m ≡ dictionaryWith v l nm
+  pub textLeft : text ≡ textWith v l nm
+  pub endsLeft : ends ≡ endsWith v l nm
+
+pub named-some : {v : View} {l : Storage} {name : Name} {new : Bool} {m : MetadataBuilder} {text ends : List ℕ}
+    → new ≡ isNew v l (some name) → namesFull v l (some name) ≡ false → Registers new (v .counts .dictionary) (l .text) (l .ends) name m text ends → Named v l (some name) m text ends
+named-some {v} {l} {name} {new} {m} {text} {ends} e f r = go (held v l name) (hasRoom (v .counts .dictionary) (l .text) (l .ends) name) refl refl
+  where
+    go : (h t : Bool) → held v l name ≡ h → hasRoom (v .counts .dictionary) (l .text) (l .ends) name ≡ t → Named v l (some name) m text ends
+    go true t p q = record { dictionary = rw (r .metadata, e, p); textLeft = rw (r .textLeft, e, p); endsLeft = rw (r .endsLeft, e, p) }
+    go false true p q = record { dictionary = rw (r .metadata, e, p, q); textLeft = rw (r .textLeft, e, p, q); endsLeft = rw (r .endsLeft, e, p, q) }
+    go false false p q = absurd (true≢false (rw (p, q) at f))
+
+named-none : {v : View} {l : Storage} {name : Name} {new : Bool} {m : MetadataBuilder} {text ends : List ℕ}
+    → new ≡ false → Registers new (v .counts .dictionary) (l .text) (l .ends) name m text ends → Named v l none m text ends
+named-none e r = record { dictionary = rw (r .metadata, e); textLeft = rw (r .textLeft, e); endsLeft = rw (r .endsLeft, e) }
+
+pub named-by : {v : View} {l : Storage} {name : Name} {new : Bool} {m : MetadataBuilder} {text ends : List ℕ} (named : Bool)
+    → new ≡ isNew v l (nameOf named name) → namesFull v l (nameOf named name) ≡ false → Registers new (v .counts .dictionary) (l .text) (l .ends) name m text ends
+    → Named v l (nameOf named name) m text ends
+unfolding nameOf
+named-by true e f r = named-some e f r
+named-by false e f r = named-none e r
+
+-- ---- the rows are clear
+
+pub record Clears (v : View) (l : Storage) (nm : Option Name) (opens : Bool) (size : ℕ) : Type 0 where
+  pub depth : opens ≡ true → v .counts .depth < 64
+  pub names : namesFull v l nm ≡ false
+  pub entries : entriesFull v l nm ≡ false
+  pub room : fits (v .counts .value) size (length (l .value)) ≡ true
+
+pub enter-clears : (v : View) (l : Storage) (nm : Option Name) (into opens : Bool) (own size : ℕ) → first (enterRows v l nm into opens own size) ≡ 0 → Clears v l nm opens size
+enter-clears v l nm into opens own size e =
+    let c = enter-late v l nm into opens own size e in
+    record {
+      depth = λ o. leb-false 64 (v .counts .depth) (rw o at (c 11));
+      names = c 12;
+      entries = c 13;
+      room = not-false (fits (v .counts .value) size (length (l .value))) (c 14);
+    }
+
+-- ---- what is entered
+live-open : (v : View) (l : Storage) (nm : Option Name) → liveUnder v l nm ≡ true → isOpen v ≡ true
+live-open v l none e = absurd (true≢false (sym e))
+live-open v l (some n) e = go (isOpen v) (live v l n) e
+  where
+    go : (a b : Bool) → (a && b) ≡ true → a ≡ true
+    go true b e = refl
+    go false b e = e
+
+-- a fresh entry has room
+fresh-room : (v : View) (l : Storage) (nm : Option Name) → entriesFull v l nm ≡ false → isOpen v ≡ true → liveUnder v l nm ≡ false → ltb (v .counts .entries) (roomFor (length (l .entries))) ≡ true
+fresh-room v l nm e p q = lt-ltb (v .counts .entries) (roomFor (length (l .entries))) (leb-false (roomFor (length (l .entries))) (v .counts .entries) (rw (p, q) at e))
+
+field-of : {v : View} {l : Storage} {nm : Option Name} {n : ℕ} {d : Decided} → Decides n v l nm d → d .number ≡ 0 → d .field ≡ fieldOf v l nm
+field-of {n = n} a z = rw (a .field, eq-eqb n 0 (sym (a .number) ∙ z))
+
+module _ {v : View} {l : Storage} {nm : Option Name} (opens : Bool) (size : ℕ) {n : ℕ} {d : Decided} {u : Bool} (a : Decides n v l nm d) (m : u ≡ uniqueNow v) where
+  pub entered-refused : (d .number ≡ 0 → ⊥)
+      → EntersBy v l nm opens size n (record { counts = v .counts; place = 0; id = 0; offset = 0; live = false; fresh = false; unique = u; number = d .number }) (l .text) (l .ends)
+  entered-refused z =
+      let z' = ne-eqb n 0 (λ p. z (a .number ∙ p)) in
+      let no : n ≡ 0 → ⊥ = λ p. z (a .number ∙ p) in
+      record { number = a .number; counts = rw z'; unique = m; textLeft = rw z'; endsLeft = rw z'; entries = λ p. absurd (no p); parent = λ p. absurd (no p) }
+
+  module _ {b : MetadataBuilder} {text ends : List ℕ} {at place : ℕ} {fresh : Bool} {c : Counts} (z : d .number ≡ 0) (h : Named v l nm b text ends) (full : entriesFull v l nm ≡ false) (s : at ≡ innerSize v)
+      (o : fresh ≡ (isOpen v && not (d .field .live))) (p : place ≡ cond (d .field .live) (d .field .place) (v .counts .entries))
+      (k : c ≡ withCounts (v .counts) (v .counts .value + size) (oneMore fresh (v .counts .entries)) (oneMore opens (v .counts .depth)) b) where
+    abbrev entered : Entered
+    entered = record { counts = c; place = place; id = d .field .id; offset = at; live = d .field .live; fresh = fresh; unique = u; number = 0 }
+
+    -- its entry: a new one, a live name's, or none at the top level
+    puts : (entriesPut entered (l .entries) ≡ entriesWith v l nm) × (parentPut entered (l .entries) ≡ parentWith v l nm)
+    unfolding fieldOf
+    puts = go (isOpen v) (liveUnder v l nm) refl refl
+      where
+        go : (t b : Bool) → isOpen v ≡ t → liveUnder v l nm ≡ b → (entriesPut entered (l .entries) ≡ entriesWith v l nm) × (parentPut entered (l .entries) ≡ parentWith v l nm)
+        go true false e q = (rw (o, p, field-of a z, s, e, q, fresh-room v l nm full e q), rw (field-of a z, q))
+        go false true e q = absurd (true≢false (sym (live-open v l nm q) ∙ e))
+        go true true e q = (rw (p, field-of a z, s, e, q), rw (p, field-of a z, q))
+        go false false e q = (rw (o, field-of a z, e, q), rw (field-of a z, q))
+
+    pub entered-done : EntersBy v l nm opens size n entered text ends
+    unfolding fieldOf
+    entered-done =
+        let e : n ≡ 0 = sym (a .number) ∙ z in
+        let z' = eq-eqb n 0 e in
+        record {
+          number = sym e;
+          counts = rw (z', k, o, field-of a z, h .dictionary);
+          unique = m;
+          textLeft = rw z' (h .textLeft);
+          endsLeft = rw z' (h .endsLeft);
+          entries = λ q. puts .0;
+          parent = λ q. puts .1;
+        }
+
+-- ---- as the code has it
+
+module _ (v : View) (l : Storage) (named : Bool) (name : Name) (into opens : Bool) (own size : ℕ) {d : Decided} {u : Bool}
+    (a : Decides (first (enterRows v l (nameOf named name) into opens own size)) v l (nameOf named name) d) (m : u ≡ uniqueNow v) (z : d .number ≡ 0) where
+  clear : Clears v l (nameOf named name) opens size
+  clear = enter-clears v l (nameOf named name) into opens own size (sym (a .number) ∙ z)
+
+  -- of a fresh entry the name is not live
+  fresh-field : (isOpen v && not (d .field .live)) ≡ true → liveUnder v l (nameOf named name) ≡ false
+  unfolding fieldOf
+  fresh-field t = ap (λ (g : Field). g .live) (sym (field-of a z)) ∙ not-true (d .field .live) (both (isOpen v) (not (d .field .live)) t .1)
+
+  -- the counts then are numbers of the machine
+  pub enters-bounds : length (l .entries) < 2 ^ 64
+      → (v .counts .value + size < 2 ^ 63) × (((isOpen v && not (d .field .live)) ≡ true → v .counts .entries < 2 ^ 63) × (opens ≡ true → v .counts .depth < 2 ^ 63))
+  enters-bounds g = (used, (entry, λ o. let h = clear .depth o in omega arith))
+    where
+      used : v .counts .value + size < 2 ^ 63
+      used = let h = leb-true (v .counts .value + size) (counted (length (l .value))) (clear .room) in omega arith
+
+      entry : (isOpen v && not (d .field .live)) ≡ true → v .counts .entries < 2 ^ 63
+      entry t =
+          let b = both (isOpen v) (not (d .field .live)) t in
+          let h = leb-false (roomFor (length (l .entries))) (v .counts .entries) (rw (b .0, fresh-field t) at (clear .entries)) in
+          omega arith
+
+  pub enters : {b : MetadataBuilder} {text ends : List ℕ} {at place : ℕ} {c : Counts} → Registers (d .field .new) (v .counts .dictionary) (l .text) (l .ends) name b text ends → at ≡ innerSize v
+      → c ≡ withCounts (v .counts) (v .counts .value + size) (oneMore (isOpen v && not (d .field .live)) (v .counts .entries)) (oneMore opens (v .counts .depth)) b
+      → place ≡ cond (d .field .live) (d .field .place) (v .counts .entries)
+      → EntersBy v l (nameOf named name) opens size (first (enterRows v l (nameOf named name) into opens own size))
+      (record { counts = c; place = place; id = d .field .id; offset = at; live = d .field .live; fresh = isOpen v && not (d .field .live); unique = u; number = 0 }) text ends
+  unfolding fieldOf
+  enters r s k p = entered-done opens size a m z (named-by named (ap (λ (g : Field). g .new) (field-of a z)) (clear .names) r) (clear .entries) s refl p k
+
+-- ---- the entry put
+
+pub puts-live : (e : Entered) (es : List ℕ) {after : List ℕ} {former : ℕ} → e .live ≡ true → (former ≡ entryAt es (e .place) .offset) × (after ≡ set es (2 * e .place + 1) (e .offset))
+    → (Replaced (e .id) former ≡ parentPut e es) × (after ≡ entriesPut e es)
+puts-live e es t r = (rw (t, r .0), rw (t, r .1))
+
+pub puts-fresh : (e : Entered) (es : List ℕ) {after : List ℕ} {r : Put} → e .live ≡ false → e .fresh ≡ true → Notes es (e .place) (record { id = e .id; offset = e .offset }) r after
+    → (New ≡ parentPut e es) × (after ≡ entriesPut e es)
+puts-fresh e es t u r = (rw t, rw (t, u) (r .entries))
+
+pub puts-none : (e : Entered) (es : List ℕ) → e .live ≡ false → e .fresh ≡ false → (New ≡ parentPut e es) × (es ≡ entriesPut e es)
+puts-none e es t u = (rw t, rw (t, u))

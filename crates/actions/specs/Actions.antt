@@ -1,0 +1,105 @@
+-- What a call over pieces of the record gives back and leaves behind, by the definitions of `semantics`; and, for the code, the parts
+-- that calls share.
+use mathlib.Core.Path.{_≡_}
+use mathlib.Core.Bool.{Bool, cond, _&&_}
+use mathlib.Core.List.{List}
+use mathlib.Core.Option.{Option}
+use Prim.Native.Nat.{ℕ, _+_, _*_}
+use lib.Dec.{eqb, ltb}
+use lib.ListN.{length, set}
+use Rattle.encoding.specs.Slices.{write}
+use Rattle.metadata.specs.declared.MetadataBuilder.{MetadataBuilder}
+use Rattle.metadata.specs.Names.{Name}
+use Rattle.metadata.specs.Calls.{added, hasRoom}
+use Rattle.container.specs.declared.Closed.{Closed}
+use Rattle.container.specs.declared.Frame.{Frame}
+use Rattle.container.specs.Entries.{entryAt, roomFor, setEntry}
+use Rattle.container.specs.Close.{closedNumber, closedAt, closes, fronted}
+use Rattle.semantics.specs.declared.Counts.{Counts}
+use Rattle.semantics.specs.declared.Container.{Container}
+use Rattle.semantics.specs.declared.ParentEntry.{ParentEntry}
+use Rattle.semantics.specs.declared.ParentEntry.the-variants.{New, Replaced}
+use Rattle.semantics.specs.declared.View.{View}
+use Rattle.semantics.specs.Record.{Storage, Call, openIn, finish, uniqueNow}
+use Rattle.semantics.specs.Table.{header, numberOf}
+use Rattle.semantics.specs.Step.{carriedOut, countWith, dictionaryOf, dictionaryWith, endsWith, entriesClosed, entriesWith, finished, newContainer, parentWith, textWith, withCounts}
+use Rattle.actions.specs.declared.Moved.{Moved}
+use Rattle.actions.specs.declared.Opened.{Opened}
+use Rattle.actions.specs.declared.Ended.{Ended}
+use Rattle.actions.specs.declared.enter.Entered.{Entered}
+
+-- the number, the counts and the storage of a call
+pub record Leaves (v : View) (l : Storage) (c : Call) (r : Moved) (after : Storage) : Type 0 where
+  pub number : r .number ≡ numberOf v l c
+  pub counts : r .counts ≡ cond (eqb (numberOf v l c) 0) (carriedOut v l c .counts) (v .counts)
+  pub storage : after ≡ cond (eqb (numberOf v l c) 0) (carriedOut v l c .storage) l
+
+-- of an open also the container
+pub record Opens (v : View) (l : Storage) (nm : Option Name) (object : Bool) (r : Opened) (after : Storage) : Type 0 where
+  pub number : r .number ≡ numberOf v l (openIn nm object)
+  pub counts : r .counts ≡ cond (eqb (numberOf v l (openIn nm object)) 0) (carriedOut v l (openIn nm object) .counts) (v .counts)
+  pub container : r .container ≡ cond (eqb (numberOf v l (openIn nm object)) 0) (newContainer v l nm object) (v .inner)
+  pub storage : after ≡ cond (eqb (numberOf v l (openIn nm object)) 0) (carriedOut v l (openIn nm object) .storage) l
+
+-- of a finish also the bytes written, and the output
+pub record Ends (v : View) (l : Storage) (out : List ℕ) (r : Ended) (after : List ℕ) : Type 0 where
+  pub number : r .number ≡ numberOf v l (finish out)
+  pub counts : r .counts ≡ cond (eqb (numberOf v l (finish out)) 0) (finished (v .counts)) (v .counts)
+  pub written : r .written ≡ cond (eqb (numberOf v l (finish out)) 0) (length (dictionaryOf v l)) 0
+  pub output : after ≡ cond (eqb (numberOf v l (finish out)) 0) (write 0 (dictionaryOf v l) out) out
+
+-- ---- a name added where it is new
+abbrev pub adds : Bool → MetadataBuilder → List ℕ → List ℕ → Name → Bool
+adds new m text ends name = new && hasRoom m text ends name
+
+pub record Registers (new : Bool) (m : MetadataBuilder) (text ends : List ℕ) (name : Name) (r : MetadataBuilder) (textAfter endsAfter : List ℕ) : Type 0 where
+  pub metadata : r ≡ cond (adds new m text ends name) (added m text ends name) m
+  pub textLeft : textAfter ≡ cond (adds new m text ends name) (write (m .text) name text) text
+  pub endsLeft : endsAfter ≡ cond (adds new m text ends name) (set ends (m .names) (m .text + length name)) ends
+
+-- ---- the entry of a value, as it is put: in the place of a live name's, or as a fresh one
+abbrev pub entriesPut : Entered → List ℕ → List ℕ
+entriesPut e es =
+    cond (e .live) (set es (2 * e .place + 1) (e .offset))
+    (cond (e .fresh) (cond (ltb (e .place) (roomFor (length es))) (setEntry es (e .place) (record { id = e .id; offset = e .offset })) es) es)
+
+abbrev pub parentPut : Entered → List ℕ → ParentEntry
+parentPut e es = cond (e .live) (Replaced (e .id) (entryAt es (e .place) .offset)) New
+
+-- one more where it is so
+abbrev pub oneMore : Bool → ℕ → ℕ
+oneMore more n = cond more (n + 1) n
+
+-- the counts with a name, an entry, a value of that size and, of an open, a container more
+abbrev pub countsWith : View → Storage → Option Name → Bool → ℕ → Counts
+countsWith v l nm opens size = withCounts (v .counts) (v .counts .value + size) (countWith v l nm) (oneMore opens (v .counts .depth)) (dictionaryWith v l nm)
+
+-- what a register, an append or an open of number n leaves, up to the entry and the value's bytes
+pub record EntersBy (v : View) (l : Storage) (nm : Option Name) (opens : Bool) (size n : ℕ) (r : Entered) (text ends : List ℕ) : Type 0 where
+  pub number : r .number ≡ n
+  pub counts : r .counts ≡ cond (eqb n 0) (countsWith v l nm opens size) (v .counts)
+  pub unique : r .unique ≡ uniqueNow v
+  pub textLeft : text ≡ cond (eqb n 0) (textWith v l nm) (l .text)
+  pub endsLeft : ends ≡ cond (eqb n 0) (endsWith v l nm) (l .ends)
+  pub entries : n ≡ 0 → entriesPut r (l .entries) ≡ entriesWith v l nm
+  pub parent : n ≡ 0 → parentPut r (l .entries) ≡ parentWith v l nm
+
+-- the container that opens, of the counts before and what was entered
+abbrev pub childOf : Counts → Entered → ParentEntry → Bool → Container
+childOf c e p object =
+    record { value = c .value; names = c .dictionary .names; text = c .dictionary .text; entries = e .counts .entries; parent = p; object = object; unique = e .unique }
+
+-- ---- the innermost's header put before its data
+abbrev pub frameOf : View → Frame
+frameOf v = record { start = v .inner .value; used = v .counts .value; from = v .inner .entries; to = v .counts .entries }
+
+pub record Fronts (v : View) (l : Storage) (r : Closed) (value entries : List ℕ) : Type 0 where
+  pub number : closedNumber r ≡ closes (frameOf v) (length (l .value)) (length (l .entries)) (header v l)
+  pub used : closedAt r ≡ cond (eqb (closedNumber r) 0) (v .counts .value + length (header v l)) 0
+  pub bytes : value ≡ cond (eqb (closedNumber r) 0) (fronted (v .inner .value) (v .counts .value) (header v l) (l .value)) (l .value)
+  pub entriesLeft : entries ≡ cond (eqb (closedNumber r) 0) (entriesClosed v l) (l .entries)
+
+-- ---- a parent's entry undone: the former offset, at its place
+abbrev pub entriesUndone : List ℕ → ℕ → ParentEntry → List ℕ
+entriesUndone es place New = es
+entriesUndone es place (Replaced id offset) = set es (2 * place + 1) offset

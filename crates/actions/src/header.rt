@@ -1,0 +1,88 @@
+// The innermost container closed: `ListBuilder::finish` and `ObjectBuilder::finish` of the Rust.
+// Derived from parquet-variant 60.1.0, src/builder/list.rs and src/builder/object.rs (see NOTICE). Changed: written in Rattle.
+use crate::Moved;
+use container::Closed;
+use container::Frame;
+use container::close_list;
+use container::close_object;
+use refusals::close_number;
+use semantics::Counts;
+use semantics::View;
+ghost use mathlib.Core.Path.{_≡_};
+ghost use Prim.Native.Nat.{_-_};
+ghost use Rattle.container.specs.Layout.{largest};
+ghost use Rattle.container.specs.Entries.{entriesOf, idsOf};
+ghost use Rattle.semantics.specs.Record.{close as closeOf, storageOf};
+ghost use Rattle.actions.specs.Actions.{Fronts, Leaves};
+
+pub fn close_over(
+    v: View,
+    value: &mut [u8],
+    text: &[u8],
+    ends: &[usize],
+    entries: &mut [usize],
+) -> Moved
+    ensures { λ r. ⌜ Leaves v (storageOf (now (value .entry)) (now (text .entry)) (now (ends .entry)) (now (entries .entry))) closeOf r
+        (storageOf (now (value .exit)) (now (text .entry)) (now (ends .entry)) (now (entries .exit))) ⌝ }
+{
+    let d = close_number(v, value, text, ends, entries);
+    let n = d.number;
+    let c = v.counts;
+    if n != 0 {
+        return Moved {
+            counts: c,
+            number: n,
+        };
+    }
+    let r = put_header(v, d.largest, value, text, ends, entries);
+    match r {
+        Closed::Done(used) => {
+            let m = c.dictionary;
+            Moved {
+                counts: Counts {
+                    value: used,
+                    entries: v.inner.entries,
+                    depth: c.depth - 1,
+                    dictionary: m,
+                    unique: c.unique,
+                    finished: c.finished,
+                },
+                number: 0,
+            }
+        }
+        Closed::Damaged => Moved {
+            counts: c,
+            number: 1,
+        },
+        Closed::NoRoom => Moved {
+            counts: c,
+            number: 14,
+        },
+    }
+}
+
+// `most` is the largest id.
+fn put_header(
+    v: View,
+    most: usize,
+    value: &mut [u8],
+    text: &[u8],
+    ends: &[usize],
+    entries: &mut [usize],
+) -> Closed
+    requires { ⌜ most ≡ largest (idsOf (entriesOf (now entries) (v .inner .entries) (v .counts .entries - v .inner .entries))) ⌝ }
+    ensures { λ r. ⌜ Fronts v (storageOf (now (value .entry)) (now (text .entry)) (now (ends .entry)) (now (entries .entry))) r
+        (now (value .exit)) (now (entries .exit)) ⌝ }
+{
+    let f = Frame {
+        start: v.inner.value,
+        used: v.counts.value,
+        from: v.inner.entries,
+        to: v.counts.entries,
+    };
+    if v.inner.object {
+        let m = v.counts.dictionary;
+        return close_object(f, most, m, text, ends, value, entries);
+    }
+    close_list(f, value, entries)
+}

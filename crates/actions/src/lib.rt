@@ -1,0 +1,63 @@
+// Licensed to the Apache Software Foundation (ASF) under one
+// or more contributor license agreements.  See the NOTICE file
+// distributed with this work for additional information
+// regarding copyright ownership.  The ASF licenses this file
+// to you under the Apache License, Version 2.0 (the
+// "License"); you may not use this file except in compliance
+// with the License.  You may obtain a copy of the License at
+//
+//   http://www.apache.org/licenses/LICENSE-2.0
+//
+// Unless required by applicable law or agreed to in writing,
+// software distributed under the License is distributed on an
+// "AS IS" BASIS, WITHOUT WARRANTIES OR CONDITIONS OF ANY
+// KIND, either express or implied.  See the License for the
+// specific language governing permissions and limitations
+// under the License.
+
+// Each call over pieces of the builder's record: what it sees of the record (`View`), and the lent slices. A piece decides all
+// rows of its call first and then acts; it gives back the number and the counts, and of an open the container. The calls over
+// the whole record are in the crate `builder`.
+// Derived from `ParentState`, `ListState` and `ObjectState` of parquet-variant 60.1.0, src/builder.rs, src/builder/list.rs and
+// src/builder/object.rs (see NOTICE), as are the modules here. Changed: written in Rattle, over counts and lent slices.
+mod append;
+mod dictionary;
+mod enter;
+mod header;
+mod open;
+mod undo;
+
+pub use append::append_bytes_over;
+pub use append::append_uuid_over;
+pub use append::append_value_over;
+pub use dictionary::finish_over;
+pub use enter::Entered;
+pub use enter::enter_over;
+pub use enter::note;
+pub use header::close_over;
+pub use open::child;
+pub use open::open_over;
+pub use open::register;
+use semantics::Container;
+use semantics::Counts;
+pub use undo::rollback_over;
+
+// A call's number, 0 where it is carried out, and the counts then.
+pub struct Moved {
+    pub counts: Counts,
+    pub number: u8,
+}
+
+// Those of an open, and the container.
+pub struct Opened {
+    pub counts: Counts,
+    pub container: Container,
+    pub number: u8,
+}
+
+// Those of a finish, and the bytes written.
+pub struct Ended {
+    pub counts: Counts,
+    pub number: u8,
+    pub written: usize,
+}

@@ -1,0 +1,76 @@
+// The innermost container rolled back: the Rust's `Drop`.
+// Derived from `ParentState::rollback` of parquet-variant 60.1.0, src/builder.rs, and from those of `ListState` and `ObjectState`, its
+// src/builder/list.rs and src/builder/object.rs (see NOTICE). Changed: written in Rattle.
+use crate::Moved;
+use container::replace_offset;
+use metadata::truncate_field_names;
+use refusals::rollback_number;
+use refusals::saturating_sub;
+use semantics::Counts;
+use semantics::ParentEntry;
+use semantics::View;
+ghost use mathlib.Core.Path.{_≡_};
+ghost use mathlib.Core.Bool.{cond};
+ghost use Rattle.semantics.specs.Record.{rollBack, storageOf};
+ghost use Rattle.semantics.specs.Step.{countBack};
+ghost use Rattle.actions.specs.Actions.{Leaves, entriesUndone};
+
+pub fn rollback_over(
+    v: View,
+    value: &[u8],
+    text: &[u8],
+    ends: &[usize],
+    entries: &mut [usize],
+) -> Moved
+    ensures { λ r. ⌜ Leaves v (storageOf (now (value .entry)) (now (text .entry)) (now (ends .entry)) (now (entries .entry))) rollBack r
+        (storageOf (now (value .entry)) (now (text .entry)) (now (ends .entry)) (now (entries .exit))) ⌝ }
+{
+    let d = rollback_number(v, value, text, ends, entries);
+    let c = v.counts;
+    if d.number != 0 {
+        return Moved {
+            counts: c,
+            number: d.number,
+        };
+    }
+    let k = v.inner;
+    let p = k.parent;
+    let count = undo(1 < c.depth, p, k.entries, d.place, entries);
+    let m = c.dictionary;
+    let cut = truncate_field_names(m, k.names, k.text);
+    Moved {
+        counts: Counts {
+            value: k.value,
+            entries: count,
+            depth: c.depth - 1,
+            dictionary: cut,
+            unique: c.unique,
+            finished: c.finished,
+        },
+        number: 0,
+    }
+}
+
+// Below the top level the parent's entry: the former offset again for a replaced one, one entry less for a new one. The result
+// is how many entries are used.
+fn undo(
+    below: bool,
+    parent: ParentEntry,
+    count: usize,
+    place: usize,
+    entries: &mut [usize],
+) -> usize
+    ensures { λ r. ⌜ (r ≡ cond below (countBack count parent) count) ×
+        (now (entries .exit) ≡ cond below (entriesUndone (now (entries .entry)) place parent) (now (entries .entry))) ⌝ }
+{
+    if !below {
+        return count;
+    }
+    match parent {
+        ParentEntry::New => saturating_sub(count, 1),
+        ParentEntry::Replaced { id: _, offset } => {
+            replace_offset(entries, place, offset);
+            count
+        }
+    }
+}

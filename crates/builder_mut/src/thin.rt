@@ -1,0 +1,216 @@
+// Written by tools/thin.py: the calls that take the record by `&mut`, each over the call by value of the same name.
+// Derived from the `&mut self` methods of parquet-variant 60.1.0: see lib.rt and NOTICE. Changed: written in Rattle.
+use builder::Answer;
+use builder::FinishAnswer;
+use semantics::Builder;
+use value::variant::Variant;
+use value::variant::VariantBytes;
+ghost use mathlib.Core.Path.{_≡_};
+ghost use mathlib.Core.Bool.{false, true};
+ghost use Rattle.semantics.specs.Record.{append as appendOf, bytes as bytesOf, close as closeOf, finish as finishOf, fixed, openIn, register as registerOf, rollBack, uniqueness, uuid as uuidOf, storageOf};
+ghost use Rattle.refusals.specs.Decide.{nameOf};
+ghost use Rattle.builder.specs.Calls.{state};
+ghost use Rattle.builder_mut.specs.Calls.{DoesThin, FinishesThin};
+
+// A name given beforehand, at the top level.
+pub fn add_field_name(
+    b: &mut Builder,
+    value: &[u8],
+    text: &mut [u8],
+    ends: &mut [usize],
+    entries: &[usize],
+    name: &[u8],
+) -> Answer
+    ensures { λ r. ⌜ DoesThin r (now (b .exit))
+        (storageOf (now (value .entry)) (now (text .exit)) (now (ends .exit)) (now (entries .entry)))
+        (state (now (b .entry)) (storageOf (now (value .entry)) (now (text .entry)) (now (ends .entry)) (now (entries .entry))))
+        (registerOf (now (name .entry))) ⌝ }
+{
+    let c = *b;
+    let r = builder::add_field_name(c, value, text, ends, entries, name);
+    *b = r.builder;
+    r.answer
+}
+
+// A scalar of fixed size.
+pub fn append_value(
+    b: &mut Builder,
+    value: &mut [u8],
+    text: &mut [u8],
+    ends: &mut [usize],
+    entries: &mut [usize],
+    named: bool,
+    name: &[u8],
+    x: Variant,
+) -> Answer
+    ensures { λ r. ⌜ DoesThin r (now (b .exit))
+        (storageOf (now (value .exit)) (now (text .exit)) (now (ends .exit)) (now (entries .exit)))
+        (state (now (b .entry)) (storageOf (now (value .entry)) (now (text .entry)) (now (ends .entry)) (now (entries .entry))))
+        (appendOf (nameOf named (now (name .entry))) (fixed x)) ⌝ }
+{
+    let c = *b;
+    let r = builder::append_value(c, value, text, ends, entries, named, name, x);
+    *b = r.builder;
+    r.answer
+}
+
+// Binary, String, short text or plain text.
+pub fn append_bytes(
+    b: &mut Builder,
+    value: &mut [u8],
+    text: &mut [u8],
+    ends: &mut [usize],
+    entries: &mut [usize],
+    named: bool,
+    name: &[u8],
+    kind: VariantBytes,
+    bytes: &[u8],
+) -> Answer
+    ensures { λ r. ⌜ DoesThin r (now (b .exit))
+        (storageOf (now (value .exit)) (now (text .exit)) (now (ends .exit)) (now (entries .exit)))
+        (state (now (b .entry)) (storageOf (now (value .entry)) (now (text .entry)) (now (ends .entry)) (now (entries .entry))))
+        (appendOf (nameOf named (now (name .entry))) (bytesOf kind (now (bytes .entry)))) ⌝ }
+{
+    let c = *b;
+    let r = builder::append_bytes(c, value, text, ends, entries, named, name, kind, bytes);
+    *b = r.builder;
+    r.answer
+}
+
+pub fn append_uuid(
+    b: &mut Builder,
+    value: &mut [u8],
+    text: &mut [u8],
+    ends: &mut [usize],
+    entries: &mut [usize],
+    named: bool,
+    name: &[u8],
+    uuid: [u8; 16],
+) -> Answer
+    ensures { λ r. ⌜ DoesThin r (now (b .exit))
+        (storageOf (now (value .exit)) (now (text .exit)) (now (ends .exit)) (now (entries .exit)))
+        (state (now (b .entry)) (storageOf (now (value .entry)) (now (text .entry)) (now (ends .entry)) (now (entries .entry))))
+        (appendOf (nameOf named (now (name .entry))) (uuidOf uuid)) ⌝ }
+{
+    let c = *b;
+    let r = builder::append_uuid(c, value, text, ends, entries, named, name, uuid);
+    *b = r.builder;
+    r.answer
+}
+
+pub fn new_list(
+    b: &mut Builder,
+    value: &[u8],
+    text: &mut [u8],
+    ends: &mut [usize],
+    entries: &mut [usize],
+    named: bool,
+    name: &[u8],
+) -> Answer
+    ensures { λ r. ⌜ DoesThin r (now (b .exit))
+        (storageOf (now (value .entry)) (now (text .exit)) (now (ends .exit)) (now (entries .exit)))
+        (state (now (b .entry)) (storageOf (now (value .entry)) (now (text .entry)) (now (ends .entry)) (now (entries .entry))))
+        (openIn (nameOf named (now (name .entry))) false) ⌝ }
+{
+    let c = *b;
+    let r = builder::new_list(c, value, text, ends, entries, named, name);
+    *b = r.builder;
+    r.answer
+}
+
+pub fn new_object(
+    b: &mut Builder,
+    value: &[u8],
+    text: &mut [u8],
+    ends: &mut [usize],
+    entries: &mut [usize],
+    named: bool,
+    name: &[u8],
+) -> Answer
+    ensures { λ r. ⌜ DoesThin r (now (b .exit))
+        (storageOf (now (value .entry)) (now (text .exit)) (now (ends .exit)) (now (entries .exit)))
+        (state (now (b .entry)) (storageOf (now (value .entry)) (now (text .entry)) (now (ends .entry)) (now (entries .entry))))
+        (openIn (nameOf named (now (name .entry))) true) ⌝ }
+{
+    let c = *b;
+    let r = builder::new_object(c, value, text, ends, entries, named, name);
+    *b = r.builder;
+    r.answer
+}
+
+pub fn close(
+    b: &mut Builder,
+    value: &mut [u8],
+    text: &[u8],
+    ends: &[usize],
+    entries: &mut [usize],
+) -> Answer
+    ensures { λ r. ⌜ DoesThin r (now (b .exit))
+        (storageOf (now (value .exit)) (now (text .entry)) (now (ends .entry)) (now (entries .exit)))
+        (state (now (b .entry)) (storageOf (now (value .entry)) (now (text .entry)) (now (ends .entry)) (now (entries .entry))))
+        closeOf ⌝ }
+{
+    let c = *b;
+    let r = builder::close(c, value, text, ends, entries);
+    *b = r.builder;
+    r.answer
+}
+
+pub fn rollback(
+    b: &mut Builder,
+    value: &[u8],
+    text: &[u8],
+    ends: &[usize],
+    entries: &mut [usize],
+) -> Answer
+    ensures { λ r. ⌜ DoesThin r (now (b .exit))
+        (storageOf (now (value .entry)) (now (text .entry)) (now (ends .entry)) (now (entries .exit)))
+        (state (now (b .entry)) (storageOf (now (value .entry)) (now (text .entry)) (now (ends .entry)) (now (entries .entry))))
+        rollBack ⌝ }
+{
+    let c = *b;
+    let r = builder::rollback(c, value, text, ends, entries);
+    *b = r.builder;
+    r.answer
+}
+
+// The uniqueness mark of the innermost object, for later calls.
+pub fn with_validate_unique_fields(
+    b: &mut Builder,
+    value: &[u8],
+    text: &[u8],
+    ends: &[usize],
+    entries: &[usize],
+    unique: bool,
+) -> Answer
+    ensures { λ r. ⌜ DoesThin r (now (b .exit))
+        (storageOf (now (value .entry)) (now (text .entry)) (now (ends .entry)) (now (entries .entry)))
+        (state (now (b .entry)) (storageOf (now (value .entry)) (now (text .entry)) (now (ends .entry)) (now (entries .entry))))
+        (uniqueness unique) ⌝ }
+{
+    let c = *b;
+    let r = builder::with_validate_unique_fields(c, value, text, ends, entries, unique);
+    *b = r.builder;
+    r.answer
+}
+
+// The dictionary at the start of `out`, and the builder finished: `VariantBuilder::finish` of the Rust.
+pub fn finish(
+    b: &mut Builder,
+    value: &[u8],
+    text: &[u8],
+    ends: &[usize],
+    entries: &[usize],
+    out: &mut [u8],
+) -> FinishAnswer
+    ensures { λ r. ⌜ FinishesThin r (now (b .exit))
+        (storageOf (now (value .entry)) (now (text .entry)) (now (ends .entry)) (now (entries .entry)))
+        (now (out .exit))
+        (state (now (b .entry)) (storageOf (now (value .entry)) (now (text .entry)) (now (ends .entry)) (now (entries .entry))))
+        (finishOf (now (out .entry))) ⌝ }
+{
+    let c = *b;
+    let r = builder::finish(c, value, text, ends, entries, out);
+    *b = r.builder;
+    r.answer
+}

@@ -1,2 +1,0 @@
--- What a call over pieces of the record gives back and leaves behind.
-pub mod Pieces

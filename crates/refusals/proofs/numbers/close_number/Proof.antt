@@ -1,0 +1,34 @@
+-- Number 1 where every call has it; else the name ends and the pass over the innermost entries decide on it, then rows 2 and 3.
+use borrow.Author.Needs.{needs}
+use Rattle.refusals.proofs.NumberLaws.{close-rows, closes-broken, closes-by}
+use Rattle.refusals.proofs.numbers.close_number.Statement.{statement}
+use Rattle.refusals.proofs.numbers.close_number.Tie as tie
+
+returns : tie.Need-returns
+returns c = closes-broken _ _ (rw (c .before .broken .ensures) at (c .if1 .taken))
+
+returns-2 : tie.Need-returns-2
+returns-2 c =
+    let i = c .before .before .before .before in
+    let o = i .before in
+    let s = o .before in
+    let b = s .before .before .before .before .before in
+    let e = rw (b .before .broken .ensures) at (b .if1 .left) in
+    let q = rw (s .before .saturating-sub .ensures) at (s .search-entries .ensures) in
+    closes-by _ _ (s .search-entries .result) e q
+    (rw (c .row3 .ensures, c .before .row2 .ensures, c .before .before .row .ensures, i .intact .ensures, o .is-open .ensures) (close-rows _ _ (s .search-entries .result) e q))
+
+pub close-number-spec : {M : Type 1} → statement M
+close-number-spec =
+    tie.close
+    (tie.spec
+    (λ c κs. search needs)
+    returns
+    (λ c κs. search needs)
+    (λ c κs. search needs)
+    (λ c κs. search needs)
+    (λ c κs. search needs)
+    (λ c κs. search needs)
+    (λ c κs. search needs)
+    (λ c κs. search needs)
+    returns-2)

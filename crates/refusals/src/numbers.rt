@@ -1,0 +1,285 @@
+// Each call's number: the first row of document 01's table whose test holds, or 0.
+use crate::Closing;
+use crate::Decided;
+use crate::Field;
+use crate::Undone;
+use crate::lookup::Named;
+use crate::lookup::field_of;
+use crate::lookup::no_field;
+use crate::view::broken;
+use crate::view::in_object;
+use crate::view::is_open;
+use crate::view::misnamed;
+use crate::view::row;
+use crate::view::saturating_sub;
+use crate::view::second_top;
+use crate::view::unique_now;
+use container::search_entries;
+use encoding::slices::fits;
+use metadata::intact;
+use semantics::ParentEntry;
+use semantics::View;
+ghost use mathlib.Core.Path.{_≡_};
+ghost use mathlib.Core.Bool.{Bool};
+ghost use mathlib.Core.List.{List};
+ghost use Prim.Native.Nat.{ℕ, _≤_};
+ghost use lib.ListN.{length};
+ghost use Rattle.encoding.specs.Rows.{first};
+ghost use Rattle.container.specs.Entries.{roomFor};
+ghost use Rattle.semantics.specs.Record.{rollBack, uniqueness, storageOf};
+ghost use Rattle.semantics.specs.Table.{numberOf};
+ghost use Rattle.refusals.specs.Decide.{ClosesBy, Decides, ParentOf, enterBy, enterRows, finishBy, fullBy, rowsBy, Undoes, decidedOf, nameOf};
+
+// A register's, an append's and an open's. `into` is false of a register, which enters nothing into a container; `opens` is true of an
+// open; `own` is the scalar's own number, 0 where it has none; `size` is the scalar's bytes.
+pub fn enter_number(
+    v: View,
+    value: &[u8],
+    text: &[u8],
+    ends: &[usize],
+    entries: &[usize],
+    named: bool,
+    name: &[u8],
+    into: bool,
+    opens: bool,
+    own: u8,
+    size: usize,
+) -> Decided
+    ensures { λ r. ⌜ Decides
+        (first
+        (enterRows v (storageOf (now (value .entry)) (now (text .entry)) (now (ends .entry)) (now (entries .entry)))
+        (nameOf named (now (name .entry))) into opens own size)) v
+        (storageOf (now (value .entry)) (now (text .entry)) (now (ends .entry)) (now (entries .entry))) (nameOf named (now (name .entry))) r ⌝ }
+{
+    if broken(v, value, text, ends, entries) {
+        return decided(1, no_field());
+    }
+    let f = field_of(v, value, text, ends, entries, named, name, into);
+    let g = f.field;
+    let n = enter_rows(
+        v,
+        f,
+        named,
+        into,
+        opens,
+        own,
+        fits(v.counts.value, size, value.len()),
+        entries,
+    );
+    decided(n, g)
+}
+
+fn enter_rows(
+    v: View,
+    f: Named,
+    named: bool,
+    into: bool,
+    opens: bool,
+    own: u8,
+    fit: bool,
+    entries: &[usize],
+) -> u8
+    ensures { λ r. ⌜ r ≡ enterBy v f named into opens own fit (length (now (entries .entry))) ⌝ }
+{
+    let g = f.field;
+    let inside = !into & is_open(v);
+    let wrong = into & misnamed(v, named);
+    let second = into & second_top(v);
+    let taken = unique_now(v) & g.live;
+    let deep = opens & (64 <= v.counts.depth);
+    let full = entries_full(v, g.live, entries);
+    rows(
+        f.number,
+        own,
+        v.counts.finished,
+        inside,
+        wrong,
+        second,
+        taken,
+        deep,
+        full,
+        fit,
+    )
+}
+
+// The first row that holds. Mostly none does, which is seen at once.
+fn rows(
+    number: u8,
+    own: u8,
+    finished: bool,
+    inside: bool,
+    wrong: bool,
+    second: bool,
+    taken: bool,
+    deep: bool,
+    full: bool,
+    fit: bool,
+) -> u8
+    ensures { λ r. ⌜ r ≡ rowsBy number own finished inside wrong second taken deep full fit ⌝ }
+{
+    let known = (number == 0) & (own == 0);
+    let one = (finished | (inside | (wrong | second))) | (taken | (deep | (full | !fit)));
+    if known & !one {
+        return 0;
+    }
+    let room = row(number == 12, 12, row(full, 13, row(!fit, 14, 0)));
+    let late = row(number == 9, 9, row(taken, 10, row(deep, 11, room)));
+    let rest = row(own != 0, own, late);
+    row(
+        number == 1,
+        1,
+        row(
+            finished,
+            2,
+            row(inside, 4, row(wrong, 5, row(second, 6, rest))),
+        ),
+    )
+}
+
+// Rows 1 to 3 of a close; row 14 is the header's own. The pass over the innermost entries gives their largest id too.
+pub fn close_number(
+    v: View,
+    value: &[u8],
+    text: &[u8],
+    ends: &[usize],
+    entries: &[usize],
+) -> Closing
+    ensures { λ r. ⌜ ClosesBy v (storageOf (now (value .entry)) (now (text .entry)) (now (ends .entry)) (now (entries .entry))) r ⌝ }
+{
+    if broken(v, value, text, ends, entries) {
+        return Closing {
+            number: 1,
+            largest: 0,
+        };
+    }
+    let c = v.counts;
+    let k = v.inner;
+    let m = c.dictionary;
+    let size = saturating_sub(c.value, k.value);
+    let s = search_entries(entries, k.entries, c.entries, k.object, m.names, size, 0);
+    let open = is_open(v);
+    let misread = !intact(m, text, ends) | (open & s.misplaced);
+    let n = row(misread, 1, row(c.finished, 2, row(!open, 3, 0)));
+    Closing {
+        number: n,
+        largest: s.largest,
+    }
+}
+
+// Rows 1, 2, 4 and 15 of a finish. The name ends are asked only where 2, 4 or 15 holds: else the dictionary asks them as it is
+// written, for its rows 1 and 16.
+pub fn finish_number(v: View, value: &[u8], text: &[u8], ends: &[usize], entries: &[usize]) -> u8
+    ensures { λ r. ⌜ ((out : List ℕ) → r ≡ finishBy v (storageOf (now (value .entry)) (now (text .entry)) (now (ends .entry)) (now (entries .entry))) out) ⌝ }
+{
+    if broken(v, value, text, ends, entries) {
+        return 1;
+    }
+    let c = v.counts;
+    let late = row(is_open(v), 4, row(c.value == 0, 15, 0));
+    let n = row(c.finished, 2, late);
+    if n == 0 {
+        return 0;
+    }
+    let m = c.dictionary;
+    row(!intact(m, text, ends), 1, n)
+}
+
+pub fn rollback_number(
+    v: View,
+    value: &[u8],
+    text: &[u8],
+    ends: &[usize],
+    entries: &[usize],
+) -> Undone
+    ensures { λ r. ⌜ Undoes
+        (numberOf v (storageOf (now (value .entry)) (now (text .entry)) (now (ends .entry)) (now (entries .entry))) rollBack) v
+        (storageOf (now (value .entry)) (now (text .entry)) (now (ends .entry)) (now (entries .entry))) r ⌝ }
+{
+    if broken(v, value, text, ends, entries) {
+        return Undone {
+            place: 0,
+            number: 1,
+        };
+    }
+    let below = 1 < v.counts.depth;
+    let p = parent_entry(v, entries);
+    let n = row(
+        below & p.damaged,
+        1,
+        row(v.counts.finished, 2, row(!is_open(v), 3, 0)),
+    );
+    if (n == 0) & below {
+        return Undone {
+            place: p.place,
+            number: 0,
+        };
+    }
+    Undone {
+        place: 0,
+        number: n,
+    }
+}
+
+pub fn unique_number(v: View, value: &[u8], text: &[u8], ends: &[usize], entries: &[usize]) -> u8
+    ensures { λ r. ⌜
+        ((u : Bool) → r ≡ numberOf v (storageOf (now (value .entry)) (now (text .entry)) (now (ends .entry)) (now (entries .entry)))
+        (uniqueness u)) ⌝ }
+{
+    let bad = broken(v, value, text, ends, entries);
+    row(bad, 1, row(v.counts.finished, 2, row(!in_object(v), 3, 0)))
+}
+
+fn decided(n: u8, g: Field) -> Decided
+    ensures { λ r. ⌜ r ≡ decidedOf n g ⌝ }
+{
+    if n == 0 {
+        return Decided {
+            field: g,
+            number: 0,
+        };
+    }
+    Decided {
+        field: no_field(),
+        number: n,
+    }
+}
+
+// Row 13, of a name that is live or not.
+fn entries_full(v: View, live: bool, entries: &[usize]) -> bool
+    ensures { λ r. ⌜ r ≡ fullBy v live (length (now (entries .entry))) ⌝ }
+{
+    (is_open(v) & !live) & (entries.len() / 2 <= v.counts.entries)
+}
+
+// For a child that is not at the top level: is its parent damaged for it, and where is the parent's entry of its id.
+struct Parent {
+    place: usize,
+    damaged: bool,
+}
+
+fn parent_entry(v: View, entries: &[usize]) -> Parent
+    requires { ⌜ v .inner .entries ≤ roomFor (length (now entries)) ⌝ }
+    ensures { λ r. ⌜ ((value text ends : List ℕ) → ParentOf v (storageOf value text ends (now (entries .entry))) r) ⌝ }
+{
+    let k = v.inner;
+    let p = v.parent;
+    let m = v.counts.dictionary;
+    let entry = k.parent;
+    let size = saturating_sub(k.value, p.value);
+    match entry {
+        ParentEntry::New => {
+            let s = search_entries(entries, p.entries, k.entries, p.object, m.names, size, 0);
+            Parent {
+                place: 0,
+                damaged: s.misplaced | !(p.entries < k.entries),
+            }
+        }
+        ParentEntry::Replaced { id, offset } => {
+            let s = search_entries(entries, p.entries, k.entries, p.object, m.names, size, id);
+            Parent {
+                place: s.place,
+                damaged: s.misplaced | (!p.object | (!(s.place < k.entries) | (size < offset))),
+            }
+        }
+    }
+}

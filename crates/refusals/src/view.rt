@@ -1,0 +1,90 @@
+// Tests of what a call sees of the record.
+use encoding::slices::counted;
+use metadata::exceeds;
+use semantics::View;
+ghost use mathlib.Core.Path.{_≡_};
+ghost use mathlib.Core.Bool.{cond};
+ghost use Prim.Native.Nat.{_-_};
+ghost use Rattle.semantics.specs.Record.{inObject, isOpen, uniqueNow, storageOf};
+ghost use Rattle.semantics.specs.Damage.{grown as grownOf};
+ghost use Rattle.semantics.specs.Table.{secondTop};
+ghost use Rattle.refusals.specs.Decide.{brokenOf, misnamedBy};
+
+// a - b, or 0 where b is more.
+pub fn saturating_sub(a: usize, b: usize) -> usize
+    ensures { λ r. ⌜ r ≡ a - b ⌝ }
+{
+    if a < b {
+        return 0;
+    }
+    a - b
+}
+
+// A row of the table: its number where its test holds, else that of the rows after it.
+pub fn row(test: bool, number: u8, rest: u8) -> u8
+    ensures { λ r. ⌜ r ≡ cond test number rest ⌝ }
+{
+    if test {
+        return number;
+    }
+    rest
+}
+
+// What every call asks of number 1.
+pub(crate) fn broken(v: View, value: &[u8], text: &[u8], ends: &[usize], entries: &[usize]) -> bool
+    ensures { λ r. ⌜ r ≡ brokenOf v (storageOf (now (value .entry)) (now (text .entry)) (now (ends .entry)) (now (entries .entry))) ⌝ }
+{
+    let c = v.counts;
+    let m = c.dictionary;
+    ((counted(value.len()) < c.value) | (exceeds(m, text, ends) | (entries.len() / 2 < c.entries)))
+        | !(v.chain & grown(v))
+}
+
+// Do the innermost's starting marks lie within the used counts?
+fn grown(v: View) -> bool
+    ensures { λ r. ⌜ r ≡ grownOf v ⌝ }
+{
+    let k = v.inner;
+    let c = v.counts;
+    let m = c.dictionary;
+    (k.value <= c.value) & ((k.names <= m.names) & ((k.text <= m.text) & (k.entries <= c.entries)))
+}
+
+pub(crate) fn is_open(v: View) -> bool
+    ensures { λ r. ⌜ r ≡ isOpen v ⌝ }
+{
+    0 < v.counts.depth
+}
+
+pub(crate) fn in_object(v: View) -> bool
+    ensures { λ r. ⌜ r ≡ inObject v ⌝ }
+{
+    is_open(v) & v.inner.object
+}
+
+// Row 5.
+pub(crate) fn misnamed(v: View, named: bool) -> bool
+    ensures { λ r. ⌜ r ≡ misnamedBy named v ⌝ }
+{
+    if named {
+        return !in_object(v);
+    }
+    in_object(v)
+}
+
+// Row 6.
+pub(crate) fn second_top(v: View) -> bool
+    ensures { λ r. ⌜ r ≡ secondTop v ⌝ }
+{
+    !is_open(v) & (0 < v.counts.value)
+}
+
+// The uniqueness mark that holds now.
+pub fn unique_now(v: View) -> bool
+    ensures { λ r. ⌜ r ≡ uniqueNow v ⌝ }
+{
+    if is_open(v) {
+        return v.inner.unique;
+    }
+    v.counts.unique
+}

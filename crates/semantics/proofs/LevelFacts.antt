@@ -1,0 +1,237 @@
+-- What the levels tell: the counts that the table's rows ask for, and that number 1 never comes.
+use mathlib.Core.Path.{_≡_, refl, sym, _∙_, ap}
+use mathlib.Core.Bool.{Bool, true, false, cond, _&&_}
+use mathlib.Core.List.{List, [], _∷_, _++_, append-assoc}
+use mathlib.Core.Option.{Option, none, some}
+use Prim.Native.Nat.{ℕ, suc, _+_, _-_, _≤_}
+use native.Mathlib.Omega.{arith}
+use lib.Dec.{ltb}
+use lib.Seq.{take-at, drop-at}
+use lib.ListN.{drop, take, length, length-append}
+use Rattle.metadata.specs.Names.{Name, place}
+use Rattle.metadata.specs.Bytes.{joined}
+use Rattle.metadata.proofs.DictionaryLaws.{Distinct, distinct-front}
+use Rattle.container.specs.declared.Entry.{Entry}
+use Rattle.container.specs.Entries.{seek}
+use Rattle.container.proofs.SortLaws.{Mem}
+use Rattle.semantics.specs.declared.Container.{Container}
+use Rattle.semantics.specs.Tree.{element, live, replaced, Tree, Items, empty, item}
+use Rattle.semantics.specs.History.{Level}
+use Rattle.semantics.specs.Ledger.{liveIds, isLive, total, innerSum, headerSize, markNow, liveIn, entryCount, ownEntry, entriesUsed}
+use Rattle.semantics.specs.Ledger as ledger
+use Rattle.semantics.proofs.TreeLaws.{HeldItems, items-grow}
+use Rattle.semantics.proofs.HistoryLaws.{Extends, HeldName, Named, Chained, innerObject, with-extends, with-held, FormedLevels}
+use Rattle.semantics.proofs.Machine.{Machine, noteIn, linkIn, note, linkOf, headerOf, anyOpen, objectInner, uniqueAt, liveAt, headerAt, Rising, InnerPlaced, ParentPlaced}
+use Rattle.semantics.proofs.LayerLaws.{Layer, layer-grows, layer-placed, layer-live, layer-count, layer-header, note-count, Placed, all-placed, placed-grows, note-placed, note-owned}
+use Rattle.semantics.proofs.LevelLaws.{Used, Levels, ownNames, noted, front-entries, own-entries, own-size, names-roll}
+
+held-extends : {ns ms : List Name} (is : Items) → Extends ns ms → HeldItems ns is → HeldItems ms is
+held-extends {ns} is e h = rw (e .grown) (items-grow ns (e .more) is h)
+
+distinct-before : {ns ms : List Name} → Extends ns ms → Distinct ms → Distinct ns
+distinct-before {ns} e d = distinct-front ns (e .more) (rw (e .grown) at d)
+
+-- ---- counts
+
+-- the bytes are the ledger's total
+pub levels-total : (top : Option Tree) (u : Bool) (ls : List Level) (ks : List Container) (ns : List Name) (s : Used) → Levels top u ls ks ns s → length (s .bytes) ≡ total (s .sums)
+unfolding total
+levels-total top u [] [] ns s x = rw (x .sumsAre) (omega arith)
+levels-total top u [] (k ∷ ks) ns s x = absurd x
+levels-total top u (l ∷ ls) [] ns s x = absurd x
+levels-total top u (l ∷ ls) (k ∷ ks) ns s x =
+    rw (x .sumsAre) (omega (arith, ap length (x .bytesAre), length-append (x .outer .bytes) (x .body), levels-total top u ls ks (l .before) (x .outer) (x .under)))
+
+live-count : (ns ms : List Name) (is : Items) → length (liveIds ns is) ≡ length (liveIds ms is)
+unfolding liveIds
+live-count ns ms empty = refl
+live-count ns ms (item element t is) = live-count ns ms is
+live-count ns ms (item (live n) t is) = ap (λ k. suc k) (live-count ns ms is)
+live-count ns ms (item replaced t is) = live-count ns ms is
+
+-- names do not matter for how many entries are used
+used-same : (ns ms : List Name) (ls : List Level) → entriesUsed ns ls ≡ entriesUsed ms ls
+unfolding entriesUsed
+used-same ns ms [] = refl
+used-same ns ms (l ∷ []) = ap (λ n. cond (l .object) n (ledger.itemCount (l .items))) (live-count ns ms (l .items))
+used-same ns ms (l ∷ (p ∷ ls)) =
+    let a = live-count ns ms (l .items) in
+    let b = used-same ns ms (p ∷ ls) in
+    λ i. cond (l .object) (a i) (ledger.itemCount (l .items)) + (ownEntry (l .own) (p .items) + b i)
+
+abbrev ownIn : Option Name → List Level → ℕ
+ownIn nm [] = 0
+ownIn nm (l ∷ ls) = ownEntry nm (l .items)
+
+-- a note among the innermost's entries
+noted-count : (top : Option Tree) (u : Bool) (ls : List Level) (ks : List Container) (ns ms : List Name) (s : Used) (nm : Option Name) (at : ℕ) → Extends ns ms → HeldName ms nm
+    → Named (innerObject ls) nm → Chained ns top ls → Levels top u ls ks ns s → length (note ms ks nm at (s .entries)) ≡ ownIn nm ls + length (s .entries)
+unfolding note
+noted-count top u [] [] ns ms s nm at e h n c x = omega arith
+noted-count top u [] (k ∷ ks) ns ms s nm at e h n c x = absurd x
+noted-count top u (l ∷ ls) [] ns ms s nm at e h n c x = absurd x
+noted-count top u (l ∷ ls) (k ∷ ks) ns ms s nm at e h n c x =
+    let f = front-entries x in
+    let g = own-entries x in
+    let o = at - k .value in
+    let base = noted l ks (x .outer) in
+    let held = c .0 .held in
+    let p : take (k .entries) (s .entries) ++ noteIn ms nm o (drop (k .entries) (s .entries)) ≡ base ++ noteIn ms nm o (x .seg) = λ i. f i ++ noteIn ms nm o (g i) in
+    let q = note-count (held-extends (l .items) e held) (l .object) nm o n h (layer-grows (l .object) (l .items) e held (x .layer)) in
+    omega (arith, ap length p, length-append base (noteIn ms nm o (x .seg)), q, ap length (x .entriesAre), length-append base (x .seg))
+
+-- the entries are as many as the ledger counts
+pub levels-used : (top : Option Tree) (u : Bool) (ls : List Level) (ks : List Container) (ns : List Name) (s : Used) → Distinct ns → FormedLevels ls → Chained ns top ls
+    → Levels top u ls ks ns s → length (s .entries) ≡ entriesUsed ns ls
+unfolding entriesUsed
+levels-used top u [] [] ns s d f c x = ap length (x .entriesAre)
+levels-used top u [] (k ∷ ks) ns s d f c x = absurd x
+levels-used top u (l ∷ ls) [] ns s d f c x = absurd x
+levels-used top u (l ∷ ls) (k ∷ ks) ns s d f c x =
+    let st = c .0 in
+    let own = noted-count top u ls ks (l .before) (ownNames l) (x .outer) (l .own) (length (x .outer .bytes)) (with-extends (l .before) (l .own)) (with-held (l .before) (l .own)) (f .1) (c .1) (x .under) in
+    let rest = levels-used top u ls ks (l .before) (x .outer) (distinct-before (st .extends) d) (f .2) (c .1) (x .under) ∙ used-same (l .before) ns ls in
+    let all : length (s .entries) ≡ entryCount ns l + (ownIn (l .own) ls + entriesUsed ns ls) =
+    omega (arith, ap length (x .entriesAre), length-append (noted l ks (x .outer)) (x .seg), layer-count (st .held) (l .object) d (st .apart) (x .layer), own, rest) in
+    all ∙ sum ls
+  where
+    sum : (ls : List Level) → entryCount ns l + (ownIn (l .own) ls + entriesUsed ns ls) ≡ entriesUsed ns (l ∷ ls)
+    sum [] = omega arith
+    sum (p ∷ ls) = refl
+
+-- ---- the rows' tests, where the machine has these names, bytes and entries
+
+-- whether a container is open
+pub levels-open : (top : Option Tree) (u : Bool) (ls : List Level) (ks : List Container) (ns : List Name) (s : Used) → Levels top u ls ks ns s → anyOpen ks ≡ ledger.anyOpen ls
+levels-open top u [] [] ns s x = refl
+levels-open top u [] (k ∷ ks) ns s x = absurd x
+levels-open top u (l ∷ ls) [] ns s x = absurd x
+levels-open top u (l ∷ ls) (k ∷ ks) ns s x = refl
+
+-- whether the innermost is an object
+pub levels-object : (top : Option Tree) (u : Bool) (ls : List Level) (ks : List Container) (ns : List Name) (s : Used) → Levels top u ls ks ns s → objectInner ks ≡ ledger.objectInner ls
+levels-object top u [] [] ns s x = refl
+levels-object top u [] (k ∷ ks) ns s x = absurd x
+levels-object top u (l ∷ ls) [] ns s x = absurd x
+levels-object top u (l ∷ ls) (k ∷ ks) ns s x = x .opened .object
+
+-- how many are open
+pub levels-depth : (top : Option Tree) (u : Bool) (ls : List Level) (ks : List Container) (ns : List Name) (s : Used) → Levels top u ls ks ns s → length ks ≡ length ls
+levels-depth top u [] [] ns s x = refl
+levels-depth top u [] (k ∷ ks) ns s x = absurd x
+levels-depth top u (l ∷ ls) [] ns s x = absurd x
+levels-depth top u (l ∷ ls) (k ∷ ks) ns s x = ap (λ n. suc n) (levels-depth top u ls ks (l .before) (x .outer) (x .under))
+
+module _ (m : Machine) (sums : List ℕ) (marks : List Bool) where
+  -- what the machine uses
+  abbrev pub usedBy : Used
+  usedBy = record { bytes = m .bytes; entries = m .entries; sums = sums; marks = marks }
+
+  -- the uniqueness mark in force
+  pub levels-unique : (top : Option Tree) (ls : List Level) (ks : List Container) → Levels top (m .unique) ls ks (m .names) usedBy → uniqueAt m ks ≡ markNow marks
+  levels-unique top [] [] x = rw (x .marksAre)
+  levels-unique top [] (k ∷ ks) x = absurd x
+  levels-unique top (l ∷ ls) [] x = absurd x
+  levels-unique top (l ∷ ls) (k ∷ ks) x = rw (x .marksAre)
+
+  -- whether a name is live in the innermost, where row 5 does not hold
+  pub levels-live : (top : Option Tree) (u : Bool) (ls : List Level) (ks : List Container) (nm : Option Name) → Named (innerObject ls) nm → Chained (m .names) top ls
+      → Levels top u ls ks (m .names) usedBy → liveAt m nm ks ≡ liveIn nm ls
+  levels-live top u ls ks none n c x = refl
+  levels-live top u [] [] (some y) n c x = refl
+  levels-live top u [] (k ∷ ks) (some y) n c x = absurd x
+  levels-live top u (l ∷ ls) [] (some y) n c x = absurd x
+  levels-live top u (l ∷ ls) (k ∷ ks) (some y) n c x =
+      let g = own-entries x in
+      ap (λ (es : List Entry). ltb (place y (m .names)) (length (m .names)) && ltb (seek (place y (m .names)) es) (length es)) g ∙ go (l .object) n (x .layer)
+    where
+      go : (object : Bool) → Named object (some y) → Layer (m .names) object (l .items) (x .seg) (x .body)
+          → (ltb (place y (m .names)) (length (m .names)) && ltb (seek (place y (m .names)) (x .seg)) (length (x .seg))) ≡ isLive y (l .items)
+      go true n l = layer-live (c .0 .held) l y
+      go false n l = absurd n
+
+  -- the innermost's header has the ledger's size
+  pub levels-header : (top : Option Tree) (u : Bool) (ls : List Level) (ks : List Container) → Distinct (m .names) → Chained (m .names) top ls → Levels top u ls ks (m .names) usedBy
+      → length (headerAt m ks) ≡ headerSize (m .names) ls (innerSum sums)
+  unfolding headerSize
+  levels-header top u [] [] d c x = refl
+  levels-header top u [] (k ∷ ks) d c x = absurd x
+  levels-header top u (l ∷ ls) [] d c x = absurd x
+  levels-header top u (l ∷ ls) (k ∷ ks) d c x =
+      let g = own-entries x in
+      let o = own-size x in
+      let b = x .opened .object in
+      let p : innerSum sums ≡ length (x .body) = ap innerSum (x .sumsAre) in
+      ap length (λ i. headerOf (m .names) (b i) (g i) (o i)) ∙ (layer-header (c .0 .held) (l .object) (length (x .body)) d (c .0 .apart) (x .layer) ∙ ap (headerSize (m .names) (l ∷ ls)) (sym p))
+
+  -- ---- orderly
+
+  -- the innermost's entries are well placed
+  pub levels-inner : (top : Option Tree) (u : Bool) (ls : List Level) (ks : List Container) → Chained (m .names) top ls → Levels top u ls ks (m .names) usedBy → InnerPlaced m ks
+  levels-inner top u [] [] c x = tt
+  levels-inner top u [] (k ∷ ks) c x = absurd x
+  levels-inner top u (l ∷ ls) [] c x = absurd x
+  levels-inner top u (l ∷ ls) (k ∷ ks) c x =
+      (rw (own-entries x, own-size x, x .opened .object) (all-placed (l .object) (length (m .names)) (length (x .body)) (x .seg) (layer-placed (c .0 .held) (l .object) (x .layer))), rw (names-roll x) (x .opened .text))
+
+joined-append : (ns ms : List Name) → joined (ns ++ ms) ≡ joined ns ++ joined ms
+unfolding joined
+joined-append [] ms = refl
+joined-append (n ∷ ns) ms = ap (λ z. n ++ z) (joined-append ns ms) ∙ sym (append-assoc n (joined ns) (joined ms))
+
+-- no starting mark falls or exceeds the used counts
+pub levels-rising : (top : Option Tree) (u : Bool) (ls : List Level) (ks : List Container) (ns : List Name) (s : Used) (value names text entries : ℕ) → length (s .bytes) ≤ value → length ns ≤ names
+    → length (joined ns) ≤ text → length (s .entries) ≤ entries → FormedLevels ls → Chained ns top ls → Levels top u ls ks ns s → Rising ks value names text entries
+levels-rising top u [] [] ns s value names text entries v n t e f c x = tt
+levels-rising top u [] (k ∷ ks) ns s value names text entries v n t e f c x = absurd x
+levels-rising top u (l ∷ ls) [] ns s value names text entries v n t e f c x = absurd x
+levels-rising top u (l ∷ ls) (k ∷ ks) ns s value names text entries v n t e f c x =
+    let o = x .opened in
+    let g = c .0 .extends in
+    let own = noted-count top u ls ks (l .before) (ownNames l) (x .outer) (l .own) (length (x .outer .bytes)) (with-extends (l .before) (l .own)) (with-held (l .before) (l .own)) (f .1) (c .1) (x .under) in
+    let a = ap length (x .entriesAre) ∙ length-append (noted l ks (x .outer)) (x .seg) in
+    let gl = ap length (g .grown) ∙ length-append (l .before) (g .more) in
+    let gt = ap (λ z. length (joined z)) (g .grown) ∙ (ap length (joined-append (l .before) (g .more)) ∙ length-append (joined (l .before)) (joined (g .more))) in (
+      omega (arith, o .value, ap length (x .bytesAre), length-append (x .outer .bytes) (x .body)),
+      omega (arith, o .names),
+      omega (arith, o .text),
+      omega (arith, o .entries),
+      levels-rising top u ls ks (l .before) (x .outer) (k .value) (k .names) (k .text) (k .entries) (omega (arith, o .value)) (omega (arith, o .names)) (omega (arith, o .text))
+          (omega (arith, o .entries)) (f .2) (c .1) (x .under),
+    )
+
+-- the parent's entries are well placed, and the innermost's own is among them
+pub levels-parent : (top : Option Tree) (u : Bool) (ls : List Level) (m : Machine) (ks : List Container) (sums : List ℕ) (marks : List Bool) → FormedLevels ls → Chained (m .names) top ls
+    → Levels top u ls ks (m .names) (usedBy m sums marks) → ParentPlaced m ks
+unfolding note linkOf
+levels-parent top u [] m [] sums marks f c x = tt
+levels-parent top u [] m (k ∷ ks) sums marks f c x = absurd x
+levels-parent top u (l ∷ ls) m [] sums marks f c x = absurd x
+levels-parent top u (l ∷ []) m (k ∷ []) sums marks f c x = tt
+levels-parent top u (l ∷ []) m (k ∷ (p ∷ ks)) sums marks f c x = absurd (x .under)
+levels-parent top u (l ∷ (q ∷ ls)) m (k ∷ []) sums marks f c x = absurd (x .under)
+levels-parent top u (l ∷ (q ∷ ls)) m (k ∷ (p ∷ ks)) sums marks f c x =
+    let ms = ownNames l in
+    let y = x .under in
+    let base = noted q ks (y .outer) in
+    let N = noteIn ms (l .own) (length (y .body)) (y .seg) in
+    let fr = front-entries y in
+    let ow = own-entries y in
+    let oz = own-size y in
+    let a : noted l (p ∷ ks) (x .outer) ≡ base ++ N = λ i. fr i ++ noteIn ms (l .own) (oz i) (ow i) in
+    let b : m .entries ≡ base ++ (N ++ x .seg) = x .entriesAre ∙ (ap (λ z. z ++ x .seg) a ∙ append-assoc base N (x .seg)) in
+    let v : length N ≡ k .entries - p .entries = omega (arith, x .opened .entries, ap length a, length-append base N, y .opened .entries) in
+    let es : take (k .entries - p .entries) (drop (p .entries) (m .entries)) ≡ N =
+    ap (λ z. take (k .entries - p .entries) (drop (p .entries) z)) b
+    ∙ (ap (take (k .entries - p .entries)) (drop-at base (N ++ x .seg) (p .entries) (sym (y .opened .entries))) ∙ take-at N (x .seg) (k .entries - p .entries) v) in
+    let size : k .value - p .value ≡ length (y .body) = ap (λ z. z - p .value) (x .opened .value) ∙ oz in
+    let kp : k .parent ≡ linkIn ms (l .own) (y .seg) = x .opened .parent ∙ ap (linkIn ms (l .own)) ow in
+    let ob = y .opened .object in
+    let more = with-extends (l .before) (l .own) in
+    let few : length (l .before) ≤ length ms = omega (arith, ap length (more .grown), length-append (l .before) (more .more)) in
+    let few2 : length ms ≤ length (m .names) = omega (arith, ap length (x .grows .grown), length-append ms (x .grows .more)) in
+    let pl : (z : Entry) → Mem z (y .seg) → Placed (q .object) (length ms) (length (y .body)) z = λ z i. placed-grows few (omega arith) (layer-placed (c .1 .0 .held) (q .object) (y .layer) z i) in
+    let np = note-placed ms (q .object) (l .own) (length (y .body)) (y .seg) (with-held (l .before) (l .own)) (f .1) pl in (
+      rw (es, size, ob) (all-placed (q .object) (length (m .names)) (length (y .body)) N (λ z i. placed-grows few2 (omega arith) (np z i))),
+      rw (es, size, ob, kp) (note-owned ms (q .object) (l .own) (length (y .body)) (length (y .body)) (y .seg) (f .1) pl),
+    )

@@ -1,0 +1,272 @@
+-- All open containers: the machine's beside the history's, the innermost first.
+use mathlib.Core.Path.{_≡_, refl, sym, _∙_, ap, subst}
+use mathlib.Core.Bool.{Bool, false}
+use mathlib.Core.List.{List, [], _∷_, _++_, append-assoc}
+use mathlib.Core.Option.{Option, none, some}
+use Prim.Native.Nat.{ℕ, _+_, _-_}
+use native.Mathlib.Omega.{arith}
+use lib.Seq.{take-at, drop-at}
+use lib.ListN.{drop, take, length, length-append}
+use Rattle.metadata.specs.Names.{Name}
+use Rattle.metadata.specs.Bytes.{joined}
+use Rattle.metadata.proofs.DictionaryLaws.{Distinct, place-held}
+use Rattle.container.specs.declared.Entry.{Entry}
+use Rattle.semantics.specs.declared.Container.{Container}
+use Rattle.semantics.specs.declared.ParentEntry.{ParentEntry}
+use Rattle.semantics.specs.declared.ParentEntry.the-variants.{New, Replaced}
+use Rattle.semantics.specs.Record.{close, rollBack}
+use Rattle.semantics.specs.Tree.{Tree, nest, encode}
+use Rattle.semantics.specs.History.{Level, withName, enter, closeLevel}
+use Rattle.semantics.specs.Ledger.{addTo, innerSum, outerSums, headerSize, marksAfter}
+use Rattle.semantics.proofs.TreeLaws.{encode-grows}
+use Rattle.semantics.proofs.HistoryLaws.{Extends, extends-more, HeldName, Named, HeldTop, Chained, innerObject, with-extends, with-held, chained-grows}
+use Rattle.semantics.proofs.Machine.{noteIn, linkIn, note, linkOf, undo, headerOf}
+use Rattle.semantics.proofs.LayerLaws.{Layer, layer-grows, layer-enter, layer-close, layer-header, undone, undo-note}
+
+-- what the machine uses, with the ledger's sums and the uniqueness marks
+pub record Used : Type 0 where
+  pub bytes : List ℕ
+  pub entries : List Entry
+  pub sums : List ℕ
+  pub marks : List Bool
+
+-- the names after a container's own
+abbrev pub ownNames : Level → List Name
+ownNames l = withName (l .before) (l .own)
+
+-- the entries outside of it with its own
+abbrev pub noted : Level → List Container → Used → List Entry
+noted l ks s = note (ownNames l) ks (l .own) (length (s .bytes)) (s .entries)
+
+-- a container was opened where so much was used
+pub record Opened (l : Level) (k : Container) (ks : List Container) (s : Used) : Type 0 where
+  pub value : k .value ≡ length (s .bytes)
+  pub names : k .names ≡ length (l .before)
+  pub text : k .text ≡ length (joined (l .before))
+  pub entries : k .entries ≡ length (noted l ks s)
+  pub object : k .object ≡ l .object
+  pub parent : k .parent ≡ linkOf (ownNames l) ks (l .own) (s .entries)
+
+-- the innermost container, Under telling of those outside of it
+pub record Nested (top : Option Tree) (l : Level) (k : Container) (ks : List Container) (ns : List Name) (s : Used) (Under : List Name → Used → Type 0) : Type 0 where
+  pub outer : Used
+  pub body : List ℕ
+  pub seg : List Entry
+  pub bytesAre : s .bytes ≡ outer .bytes ++ body
+  pub entriesAre : s .entries ≡ noted l ks outer ++ seg
+  pub sumsAre : s .sums ≡ length body ∷ outer .sums
+  pub marksAre : s .marks ≡ k .unique ∷ outer .marks
+  pub opened : Opened l k ks outer
+  pub topless : top ≡ none
+  pub grows : Extends (ownNames l) ns
+  pub layer : Layer ns (l .object) (l .items) seg body
+  pub under : Under (l .before) outer
+
+-- where none is open, the bytes are those of the top value
+abbrev pub Topped : Option Tree → List Name → List ℕ → Type 0
+Topped none ns bs = bs ≡ []
+Topped (some t) ns bs = bs ≡ encode ns t
+
+-- no container is open
+pub record Ground (top : Option Tree) (unique : Bool) (ns : List Name) (s : Used) : Type 0 where
+  pub value : Topped top ns (s .bytes)
+  pub entriesAre : s .entries ≡ []
+  pub sumsAre : s .sums ≡ length (s .bytes) ∷ []
+  pub marksAre : s .marks ≡ unique ∷ []
+
+-- the containers of the machine and those of the history, level by level
+abbrev pub Levels : Option Tree → Bool → List Level → List Container → List Name → Used → Type 0
+Levels top u [] [] ns s = Ground top u ns s
+Levels top u [] (k ∷ ks) ns s = ⊥
+Levels top u (l ∷ ls) [] ns s = ⊥
+Levels top u (l ∷ ls) (k ∷ ks) ns s = Nested top l k ks ns s (λ n z. Levels top u ls ks n z)
+
+-- ---- the innermost's own part
+
+module _ {top : Option Tree} {l : Level} {k : Container} {ks : List Container} {ns : List Name} {s : Used} {Under : List Name → Used → Type 0} (x : Nested top l k ks ns s Under) where
+  pub front-entries : take (k .entries) (s .entries) ≡ noted l ks (x .outer)
+  front-entries = ap (take (k .entries)) (x .entriesAre) ∙ take-at (noted l ks (x .outer)) (x .seg) (k .entries) (sym (x .opened .entries))
+
+  pub own-entries : drop (k .entries) (s .entries) ≡ x .seg
+  own-entries = ap (drop (k .entries)) (x .entriesAre) ∙ drop-at (noted l ks (x .outer)) (x .seg) (k .entries) (sym (x .opened .entries))
+
+  pub front-bytes : take (k .value) (s .bytes) ≡ x .outer .bytes
+  front-bytes = ap (take (k .value)) (x .bytesAre) ∙ take-at (x .outer .bytes) (x .body) (k .value) (sym (x .opened .value))
+
+  pub own-bytes : drop (k .value) (s .bytes) ≡ x .body
+  own-bytes = ap (drop (k .value)) (x .bytesAre) ∙ drop-at (x .outer .bytes) (x .body) (k .value) (sym (x .opened .value))
+
+  pub own-size : length (s .bytes) - k .value ≡ length (x .body)
+  own-size = omega (arith, ap length (x .bytesAre), length-append (x .outer .bytes) (x .body), x .opened .value)
+
+-- ---- names that come later
+
+topped-grows : {ns ms : List Name} (top : Option Tree) (bs : List ℕ) → Extends ns ms → HeldTop ns top → Topped top ns bs → Topped top ms bs
+topped-grows none bs e h v = v
+topped-grows {ns} (some t) bs e h v = v ∙ sym (ap (λ z. encode z t) (e .grown) ∙ encode-grows ns (e .more) t h)
+
+-- the levels at more names
+pub levels-grow : {ns ms : List Name} (top : Option Tree) (u : Bool) (ls : List Level) (ks : List Container) (s : Used) → Extends ns ms → Chained ns top ls
+    → Levels top u ls ks ns s → Levels top u ls ks ms s
+levels-grow top u [] [] s e h x = record { value = topped-grows top (s .bytes) e h (x .value); entriesAre = x .entriesAre; sumsAre = x .sumsAre; marksAre = x .marksAre }
+levels-grow top u [] (k ∷ ks) s e h x = absurd x
+levels-grow top u (l ∷ ls) [] s e h x = absurd x
+levels-grow top u (l ∷ ls) (k ∷ ks) s e h x =
+    record {
+      outer = x .outer;
+      body = x .body;
+      seg = x .seg;
+      bytesAre = x .bytesAre;
+      entriesAre = x .entriesAre;
+      sumsAre = x .sumsAre;
+      marksAre = x .marksAre;
+      opened = x .opened;
+      topless = x .topless;
+      grows = extends-more (x .grows) e;
+      layer = layer-grows (l .object) (l .items) e (h .0 .held) (x .layer);
+      under = x .under;
+    }
+
+-- ---- a value enters
+
+-- what is used once a tree has entered
+abbrev pub usedWith : List Name → List Container → Option Name → Tree → Used → Used
+usedWith ns ks nm t s =
+    record {
+      bytes = s .bytes ++ encode ns t;
+      entries = note ns ks nm (length (s .bytes)) (s .entries);
+      sums = addTo (length (encode ns t)) (s .sums);
+      marks = s .marks;
+    }
+
+ground-empty : (top : Option Tree) (ns : List Name) (bs : List ℕ) → top ≡ none → Topped top ns bs → bs ≡ []
+ground-empty none ns bs e v = v
+ground-empty (some t) ns bs e v = absurd (let z : _≡_ {A = ℕ} 0 1 = cc in omega arith)
+
+-- A VALUE ENTERS the innermost container, or is the top value.
+pub levels-enter : (top : Option Tree) (u : Bool) (ls : List Level) (ks : List Container) (ns : List Name) (s : Used) (nm : Option Name) (t : Tree) → top ≡ none → Chained ns top ls
+    → Named (innerObject ls) nm → HeldName ns nm → Levels top u ls ks ns s
+    → Levels (enter ns top ls nm t .top) u (enter ns top ls nm t .levels) ks ns (usedWith ns ks nm t s)
+unfolding enter note addTo
+levels-enter top u [] [] ns s nm t e h n k x =
+    let b : s .bytes ≡ [] = ground-empty top ns (s .bytes) e (x .value) in
+    record {
+      value = ap (λ z. z ++ encode ns t) b;
+      entriesAre = x .entriesAre;
+      sumsAre = ap (addTo (length (encode ns t))) (x .sumsAre) ∙ ap (λ z. z ∷ []) (omega (arith, length-append (s .bytes) (encode ns t)));
+      marksAre = x .marksAre;
+    }
+levels-enter top u [] (c ∷ ks) ns s nm t e h n k x = absurd x
+levels-enter top u (l ∷ ls) [] ns s nm t e h n k x = absurd x
+levels-enter top u (l ∷ ls) (c ∷ ks) ns s nm t e h n k x =
+    let o = own-size x in
+    let f = front-entries x in
+    let g = own-entries x in
+    record {
+      outer = x .outer;
+      body = x .body ++ encode ns t;
+      seg = noteIn ns nm (length (x .body)) (x .seg);
+      bytesAre = ap (λ z. z ++ encode ns t) (x .bytesAre) ∙ append-assoc (x .outer .bytes) (x .body) (encode ns t);
+      entriesAre = λ i. f i ++ noteIn ns nm (o i) (g i);
+      sumsAre = ap (addTo (length (encode ns t))) (x .sumsAre) ∙ ap (λ z. z ∷ x .outer .sums) (omega (arith, length-append (x .body) (encode ns t)));
+      marksAre = x .marksAre;
+      opened = record { value = x .opened .value; names = x .opened .names; text = x .opened .text; entries = x .opened .entries; object = x .opened .object; parent = x .opened .parent };
+      topless = x .topless;
+      grows = x .grows;
+      layer = layer-enter ns (l .object) (l .items) (x .seg) (x .body) nm t (h .0 .held) n k (x .layer);
+      under = x .under;
+    }
+
+-- ---- close
+
+note-grows : {ns ms : List Name} (ks : List Container) (nm : Option Name) (at : ℕ) (es : List Entry) → Extends ns ms → HeldName ns nm → note ms ks nm at es ≡ note ns ks nm at es
+unfolding note noteIn
+note-grows [] nm at es e h = refl
+note-grows (k ∷ ks) none at es e h = refl
+note-grows {ns} (k ∷ ks) (some n) at es e h = rw (e .grown, place-held n ns (e .more) h)
+
+-- THE CLOSE: the innermost's tree enters the containers outside of it.
+pub levels-close : (top : Option Tree) (u : Bool) (l : Level) (ls : List Level) (k : Container) (ks : List Container) (ns : List Name) (s : Used) → Distinct ns → Chained ns top (l ∷ ls)
+    → Named (innerObject ls) (l .own) → Levels top u (l ∷ ls) (k ∷ ks) ns s
+    → Levels (closeLevel ns top (l ∷ ls) .top) u (closeLevel ns top (l ∷ ls) .levels) ks ns (record {
+      bytes = take (k .value) (s .bytes) ++ (headerOf ns (k .object) (drop (k .entries) (s .entries)) (length (drop (k .value) (s .bytes))) ++ drop (k .value) (s .bytes));
+      entries = take (k .entries) (s .entries);
+      sums = addTo (innerSum (s .sums) + headerSize ns (l ∷ ls) (innerSum (s .sums))) (outerSums (s .sums));
+      marks = marksAfter (s .marks) close false;
+    })
+unfolding closeLevel headerSize marksAfter
+levels-close top u l ls k ks ns s d h n x =
+    let t = nest (l .object) (l .items) in
+    let st = h .0 in
+    let bt = front-bytes x in
+    let bd = own-bytes x in
+    let ed = own-entries x in
+    let ob = x .opened .object in
+    let c : headerOf ns (l .object) (x .seg) (length (x .body)) ++ x .body ≡ encode ns t = layer-close (st .held) (l .object) d (st .apart) (x .layer) in
+    let b : take (k .value) (s .bytes) ++ (headerOf ns (k .object) (drop (k .entries) (s .entries)) (length (drop (k .value) (s .bytes))) ++ drop (k .value) (s .bytes)) ≡ x .outer .bytes ++ encode ns t =
+    (λ i. bt i ++ (headerOf ns (ob i) (ed i) (length (bd i)) ++ bd i)) ∙ ap (λ z. x .outer .bytes ++ z) c in
+    let own : HeldName (ownNames l) (l .own) = with-held (l .before) (l .own) in
+    let e : take (k .entries) (s .entries) ≡ note ns ks (l .own) (length (x .outer .bytes)) (x .outer .entries) =
+    front-entries x ∙ sym (note-grows ks (l .own) (length (x .outer .bytes)) (x .outer .entries) (x .grows) own) in
+    let size : length (x .body) + headerSize ns (l ∷ ls) (length (x .body)) ≡ length (encode ns t) =
+    omega (arith, ap length c, length-append (headerOf ns (l .object) (x .seg) (length (x .body))) (x .body), layer-header (st .held) (l .object) (length (x .body)) d (st .apart) (x .layer)) in
+    let v : addTo (innerSum (s .sums) + headerSize ns (l ∷ ls) (innerSum (s .sums))) (outerSums (s .sums)) ≡ addTo (length (encode ns t)) (x .outer .sums) =
+    ap (λ z. addTo (innerSum z + headerSize ns (l ∷ ls) (innerSum z)) (outerSums z)) (x .sumsAre) ∙ ap (λ z. addTo z (x .outer .sums)) size in
+    let m : marksAfter (s .marks) close false ≡ x .outer .marks = ap (λ z. marksAfter z close false) (x .marksAre) in
+    let under : Levels top u ls ks ns (x .outer) = levels-grow top u ls ks (x .outer) (st .extends) (h .1) (x .under) in
+    let p : usedWith ns ks (l .own) t (x .outer) ≡ record {
+      bytes = take (k .value) (s .bytes) ++ (headerOf ns (k .object) (drop (k .entries) (s .entries)) (length (drop (k .value) (s .bytes))) ++ drop (k .value) (s .bytes));
+      entries = take (k .entries) (s .entries);
+      sums = addTo (innerSum (s .sums) + headerSize ns (l ∷ ls) (innerSum (s .sums))) (outerSums (s .sums));
+      marks = marksAfter (s .marks) close false;
+    } = λ i. record { bytes = sym b i; entries = sym e i; sums = sym v i; marks = sym m i } in
+    subst (λ (z : Used). Levels (enter ns top ls (l .own) t .top) u (enter ns top ls (l .own) t .levels) ks ns z) p
+    (levels-enter top u ls ks ns (x .outer) (l .own) t (x .topless) (chained-grows top ls (st .extends) (h .1)) n (st .ownHeld) under)
+
+-- ---- roll back
+
+undo-is : (k : Container) (ks : List Container) (p : ParentEntry) (es : List Entry) → undo (k ∷ ks) p es ≡ undone (k .entries) p es
+unfolding undo
+undo-is k ks New es = refl
+undo-is k ks (Replaced i o) es = refl
+
+-- the entries without a container's own are those before its open
+levels-undo : (top : Option Tree) (u : Bool) (ls : List Level) (ks : List Container) (ns ms : List Name) (s : Used) (nm : Option Name) (at : ℕ) → Levels top u ls ks ns s
+    → undo ks (linkOf ms ks nm (s .entries)) (note ms ks nm at (s .entries)) ≡ s .entries
+unfolding note linkOf undo
+levels-undo top u [] [] ns ms s nm at x = refl
+levels-undo top u [] (k ∷ ks) ns ms s nm at x = absurd x
+levels-undo top u (l ∷ ls) [] ns ms s nm at x = absurd x
+levels-undo top u (l ∷ ls) (k ∷ ks) ns ms s nm at x =
+    let f = front-entries x in
+    let g = own-entries x in
+    undo-is k ks (linkIn ms nm (drop (k .entries) (s .entries))) (take (k .entries) (s .entries) ++ noteIn ms nm (at - k .value) (drop (k .entries) (s .entries)))
+    ∙ ((λ i. undone (x .opened .entries i) (linkIn ms nm (g i)) (f i ++ noteIn ms nm (at - k .value) (g i)))
+    ∙ (undo-note ms nm (at - k .value) (noted l ks (x .outer)) (x .seg) ∙ sym (x .entriesAre)))
+
+-- THE ROLL BACK: all is as before the open.
+pub levels-roll : (top : Option Tree) (u : Bool) (l : Level) (ls : List Level) (k : Container) (ks : List Container) (ns : List Name) (s : Used) → Levels top u (l ∷ ls) (k ∷ ks) ns s
+    → Levels top u ls ks (l .before) (record {
+      bytes = take (k .value) (s .bytes);
+      entries = undo ks (k .parent) (take (k .entries) (s .entries));
+      sums = outerSums (s .sums);
+      marks = marksAfter (s .marks) rollBack false;
+    })
+unfolding marksAfter
+levels-roll top u l ls k ks ns s x =
+    let b = front-bytes x in
+    let f = front-entries x in
+    let e : undo ks (k .parent) (take (k .entries) (s .entries)) ≡ x .outer .entries =
+    (λ i. undo ks (x .opened .parent i) (f i)) ∙ levels-undo top u ls ks (l .before) (ownNames l) (x .outer) (l .own) (length (x .outer .bytes)) (x .under) in
+    let v : outerSums (s .sums) ≡ x .outer .sums = ap outerSums (x .sumsAre) in
+    let m : marksAfter (s .marks) rollBack false ≡ x .outer .marks = ap (λ z. marksAfter z rollBack false) (x .marksAre) in
+    let p : x .outer ≡ record { bytes = take (k .value) (s .bytes); entries = undo ks (k .parent) (take (k .entries) (s .entries)); sums = outerSums (s .sums); marks = marksAfter (s .marks) rollBack false } =
+    λ i. record { bytes = sym b i; entries = sym e i; sums = sym v i; marks = sym m i } in
+    subst (λ (z : Used). Levels top u ls ks (l .before) z) p (x .under)
+
+-- the names are cut back to those before the open
+pub names-roll : {top : Option Tree} {l : Level} {k : Container} {ks : List Container} {ns : List Name} {s : Used} {Under : List Name → Used → Type 0} → Nested top l k ks ns s Under
+    → take (k .names) ns ≡ l .before
+names-roll {l} {k} {ns} x =
+    let e = extends-more (with-extends (l .before) (l .own)) (x .grows) in
+    ap (take (k .names)) (e .grown) ∙ take-at (l .before) (e .more) (k .names) (sym (x .opened .names))

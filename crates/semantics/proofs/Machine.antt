@@ -1,0 +1,226 @@
+-- The record and its storage as lists, and what each call does to them: a middle between `step` and the history.
+use mathlib.Core.Path.{_≡_}
+use mathlib.Core.Bool.{Bool, true, false, cond, not, _&&_}
+use mathlib.Core.List.{List, [], _∷_, _++_}
+use mathlib.Core.Option.{Option, none, some}
+use Prim.Native.Nat.{ℕ, _+_, _-_, _≤_}
+use lib.Dec.{eqb, leb, ltb}
+use lib.ListN.{drop, length, take}
+use Rattle.encoding.specs.Rows.{Row, row, first}
+use Rattle.encoding.specs.Slices.{counted, fits}
+use Rattle.value.specs.Scalar.{scalarBytes}
+use Rattle.metadata.specs.Names.{Name, place}
+use Rattle.metadata.specs.Bytes.{joined, sizeOf}
+use Rattle.container.specs.declared.Entry.{Entry}
+use Rattle.container.specs.Entries.{idsOf, offsetsOf, misplaced, roomFor, seek}
+use Rattle.container.specs.Layout.{listHeader, objectHeader}
+use Rattle.container.specs.Sort.{sort}
+use Rattle.metadata.proofs.DictionaryLaws.{Distinct}
+use Rattle.semantics.specs.declared.Container.{Container}
+use Rattle.semantics.specs.declared.ParentEntry.{ParentEntry}
+use Rattle.semantics.specs.declared.ParentEntry.the-variants.{New, Replaced}
+use Rattle.semantics.specs.Record.{Call, register, append, openIn, close, rollBack, uniqueness, finish, scalarOf}
+use Rattle.semantics.specs.Damage.{orphaned}
+use Rattle.semantics.specs.Table.{scalarRows, badName}
+use Rattle.semantics.specs.Step.{withUnique}
+use Rattle.semantics.specs.History.{withName, markWith}
+use Rattle.semantics.specs.Ledger.{Lent, fullFor}
+
+-- the used value bytes, the names held, the used entries, the open containers (the innermost first), and the marks
+pub record Machine : Type 0 where
+  pub bytes : List ℕ
+  pub names : List Name
+  pub entries : List Entry
+  pub conts : List Container
+  pub sorted : Bool
+  pub unique : Bool
+  pub finished : Bool
+
+-- ---- entries
+
+-- the first entry of that id gets the offset, or a new one does
+unfoldable pub put : ℕ → ℕ → List Entry → List Entry
+put i o [] = record { id = i; offset = o } ∷ []
+put i o (e ∷ es) = cond (eqb (e .id) i) (record { id = e .id; offset = o } ∷ es) (e ∷ put i o es)
+
+-- how the entry came about
+unfoldable pub find : ℕ → List Entry → ParentEntry
+find i [] = New
+find i (e ∷ es) = cond (eqb (e .id) i) (Replaced i (e .offset)) (find i es)
+
+unfoldable pub noteIn : List Name → Option Name → ℕ → List Entry → List Entry
+noteIn ns none o es = es ++ (record { id = 0; offset = o } ∷ [])
+noteIn ns (some n) o es = put (place n ns) o es
+
+unfoldable pub linkIn : List Name → Option Name → List Entry → ParentEntry
+linkIn ns none es = New
+linkIn ns (some n) es = find (place n ns) es
+
+-- the entries with one for a value that starts at `at`, and how it came about
+unfoldable pub note : List Name → List Container → Option Name → ℕ → List Entry → List Entry
+note ns [] nm at es = es
+note ns (k ∷ ks) nm at es = take (k .entries) es ++ noteIn ns nm (at - k .value) (drop (k .entries) es)
+
+unfoldable pub linkOf : List Name → List Container → Option Name → List Entry → ParentEntry
+linkOf ns [] nm es = New
+linkOf ns (k ∷ ks) nm es = linkIn ns nm (drop (k .entries) es)
+
+-- the parent's entries without the child's own
+unfoldable pub undo : List Container → ParentEntry → List Entry → List Entry
+undo [] p es = es
+undo (k ∷ ks) New es = take (length es - 1) es
+undo (k ∷ ks) (Replaced i o) es = take (k .entries) es ++ put i o (drop (k .entries) es)
+
+-- the header of a container with these entries and so much data
+unfoldable pub headerOf : List Name → Bool → List Entry → ℕ → List ℕ
+headerOf ns object es size =
+    let sorted = sort ns es in
+    cond object (objectHeader (idsOf sorted) (offsetsOf sorted) size) (listHeader (offsetsOf es) size)
+
+-- ---- what a call that is carried out does
+
+abbrev pub with : Machine → List ℕ → List Name → List Entry → List Container → Bool → Machine
+with m bs ns es ks sorted =
+    record { bytes = bs; names = ns; entries = es; conts = ks; sorted = sorted; unique = m .unique; finished = m .finished }
+
+abbrev pub uniqueAt : Machine → List Container → Bool
+uniqueAt m [] = m .unique
+uniqueAt m (k ∷ ks) = k .unique
+
+abbrev pub closeAt : Machine → List Container → Machine
+closeAt m [] = m
+closeAt m (k ∷ ks) =
+    let body = drop (k .value) (m .bytes) in
+    with m (take (k .value) (m .bytes) ++ (headerOf (m .names) (k .object) (drop (k .entries) (m .entries)) (length body) ++ body)) (m .names)
+    (take (k .entries) (m .entries)) ks (m .sorted)
+
+abbrev pub rollAt : Machine → List Container → Machine
+rollAt m [] = m
+rollAt m (k ∷ ks) = with m (take (k .value) (m .bytes)) (take (k .names) (m .names)) (undo ks (k .parent) (take (k .entries) (m .entries))) ks (m .sorted)
+
+abbrev pub markAt : Bool → List Container → List Container
+markAt u [] = []
+markAt u (k ∷ ks) = withUnique k u ∷ ks
+
+unfoldable pub apply : Machine → Call → Machine
+apply m (register n) = with m (m .bytes) (withName (m .names) (some n)) (m .entries) (m .conts) (markWith (m .names) (m .sorted) (some n))
+apply m (append nm x) =
+    let ns = withName (m .names) nm in
+    with m (m .bytes ++ scalarBytes (scalarOf x)) ns (note ns (m .conts) nm (length (m .bytes)) (m .entries)) (m .conts) (markWith (m .names) (m .sorted) nm)
+apply m (openIn nm object) =
+    let ns = withName (m .names) nm in
+    let es = note ns (m .conts) nm (length (m .bytes)) (m .entries) in
+    with m (m .bytes) ns es
+    (record {
+      value = length (m .bytes);
+      names = length (m .names);
+      text = length (joined (m .names));
+      entries = length es;
+      parent = linkOf ns (m .conts) nm (m .entries);
+      object = object;
+      unique = uniqueAt m (m .conts);
+    } ∷ m .conts)
+    (markWith (m .names) (m .sorted) nm)
+apply m close = closeAt m (m .conts)
+apply m rollBack = rollAt m (m .conts)
+apply m (uniqueness u) = with m (m .bytes) (m .names) (m .entries) (markAt u (m .conts)) (m .sorted)
+apply m (finish out) =
+    record { bytes = m .bytes; names = m .names; entries = m .entries; conts = m .conts; sorted = m .sorted; unique = m .unique; finished = true }
+
+-- ---- rows 2 to 16 of the table
+
+abbrev pub anyOpen : List Container → Bool
+anyOpen [] = false
+anyOpen (k ∷ ks) = true
+
+abbrev pub objectInner : List Container → Bool
+objectInner [] = false
+objectInner (k ∷ ks) = k .object
+
+abbrev pub misnamedAt : Option Name → List Container → Bool
+misnamedAt none ks = objectInner ks
+misnamedAt (some n) ks = not (objectInner ks)
+
+abbrev pub liveAt : Machine → Option Name → List Container → Bool
+liveAt m none ks = false
+liveAt m (some n) [] = false
+liveAt m (some n) (k ∷ ks) =
+    let es = drop (k .entries) (m .entries) in
+    ltb (place n (m .names)) (length (m .names)) && ltb (seek (place n (m .names)) es) (length es)
+
+abbrev pub noEntryFree : Machine → Lent → Option Name → Bool
+noEntryFree m lent nm = (anyOpen (m .conts) && not (liveAt m nm (m .conts))) && leb (roomFor (lent .entries)) (length (m .entries))
+
+-- n bytes do not fit
+abbrev pub tooLong : Machine → Lent → ℕ → Bool
+tooLong m lent n = not (fits (length (m .bytes)) n (lent .value))
+
+abbrev pub headerAt : Machine → List Container → List ℕ
+headerAt m [] = []
+headerAt m (k ∷ ks) = headerOf (m .names) (k .object) (drop (k .entries) (m .entries)) (length (m .bytes) - k .value)
+
+-- append's, before and behind the scalar's own
+abbrev pub frontAt : Machine → Option Name → List Row
+frontAt m nm =
+    row 2 (m .finished)
+    ∷ (row 5 (misnamedAt nm (m .conts)) ∷ (row 6 (not (anyOpen (m .conts)) && ltb 0 (length (m .bytes))) ∷ []))
+
+abbrev pub backAt : Machine → Lent → Option Name → ℕ → List Row
+backAt m lent nm size =
+    row 9 (badName nm)
+    ∷ (row 10 (uniqueAt m (m .conts) && liveAt m nm (m .conts))
+    ∷ (row 12 (fullFor lent (m .names) nm) ∷ (row 13 (noEntryFree m lent nm) ∷ (row 14 (tooLong m lent size) ∷ []))))
+
+abbrev pub rowsAt : Machine → Lent → Call → List Row
+rowsAt m lent (register n) =
+    row 2 (m .finished) ∷ (row 4 (anyOpen (m .conts)) ∷ (row 9 (badName (some n)) ∷ (row 12 (fullFor lent (m .names) (some n)) ∷ [])))
+rowsAt m lent (append nm x) = frontAt m nm ++ (scalarRows x ++ backAt m lent nm (length (scalarBytes (scalarOf x))))
+rowsAt m lent (openIn nm k) =
+    row 2 (m .finished)
+    ∷ (row 5 (misnamedAt nm (m .conts))
+    ∷ (row 6 (not (anyOpen (m .conts)) && ltb 0 (length (m .bytes)))
+    ∷ (row 9 (badName nm)
+    ∷ (row 10 (uniqueAt m (m .conts) && liveAt m nm (m .conts))
+    ∷ (row 11 (leb 64 (length (m .conts))) ∷ (row 12 (fullFor lent (m .names) nm) ∷ (row 13 (noEntryFree m lent nm) ∷ [])))))))
+rowsAt m lent close =
+    row 2 (m .finished) ∷ (row 3 (not (anyOpen (m .conts))) ∷ (row 14 (tooLong m lent (length (headerAt m (m .conts)))) ∷ []))
+rowsAt m lent rollBack = row 2 (m .finished) ∷ (row 3 (not (anyOpen (m .conts))) ∷ [])
+rowsAt m lent (uniqueness u) = row 2 (m .finished) ∷ (row 3 (not (objectInner (m .conts))) ∷ [])
+rowsAt m lent (finish out) =
+    row 2 (m .finished)
+    ∷ (row 4 (anyOpen (m .conts))
+    ∷ (row 15 (eqb (length (m .bytes)) 0)
+    ∷ (row 16 (not (leb (sizeOf (length (m .names)) (length (joined (m .names)))) (counted (length out)))) ∷ [])))
+
+unfoldable pub numberAt : Machine → Lent → Call → ℕ
+numberAt m lent c = first (rowsAt m lent c)
+
+-- ---- what a machine of a run is like, so that number 1 never comes
+
+-- no mark falls from a container to the next, nor exceeds these counts
+abbrev pub Rising : List Container → ℕ → ℕ → ℕ → ℕ → Type 0
+Rising [] value names text entries = Unit {0}
+Rising (k ∷ ks) value names text entries =
+    (k .value ≤ value) × (k .names ≤ names) × (k .text ≤ text) × (k .entries ≤ entries) × Rising ks (k .value) (k .names) (k .text) (k .entries)
+
+-- the innermost's entries are well placed, and its text mark is that of its names
+abbrev pub InnerPlaced : Machine → List Container → Type 0
+InnerPlaced m [] = Unit {0}
+InnerPlaced m (k ∷ ks) =
+    (misplaced (k .object) (length (m .names)) (length (m .bytes) - k .value) (drop (k .entries) (m .entries)) ≡ false)
+    × (k .text ≡ length (joined (take (k .names) (m .names))))
+
+-- its parent's too, and it has its own entry among them
+abbrev pub ParentPlaced : Machine → List Container → Type 0
+ParentPlaced m [] = Unit {0}
+ParentPlaced m (k ∷ []) = Unit {0}
+ParentPlaced m (k ∷ (p ∷ ks)) =
+    let es = take (k .entries - p .entries) (drop (p .entries) (m .entries)) in
+    (misplaced (p .object) (length (m .names)) (k .value - p .value) es ≡ false) × (orphaned (k .parent) (p .object) (k .value - p .value) es ≡ false)
+
+pub record Orderly (m : Machine) : Type 0 where
+  pub rising : Rising (m .conts) (length (m .bytes)) (length (m .names)) (length (joined (m .names))) (length (m .entries))
+  pub depth : length (m .conts) ≤ 64
+  pub inner : InnerPlaced m (m .conts)
+  pub parent : ParentPlaced m (m .conts)
+  pub distinct : Distinct (m .names)

@@ -1,0 +1,32 @@
+-- The twelve marked outcomes, together, by computation over `step`.
+use mathlib.Core.Path.{_≡_, refl}
+use mathlib.Core.Bool.{true}
+use Rattle.encoding.specs.Width.{width}
+use Rattle.encoding.specs.Packed.{le, les, number}
+use Rattle.encoding.specs.Signed.{twos, whole}
+use Rattle.encoding.specs.Utf8.{table, follow, rest, utf8}
+use Rattle.encoding.specs.Rows.{first}
+use Rattle.encoding.specs.Slices.{write, shift}
+use Rattle.value.specs.Scalar.{scalarBytes}
+use Rattle.metadata.specs.Names.{cuts, namesOf, risen, intact, same, place, below}
+use Rattle.metadata.specs.Bytes.{joined, endsFrom, laidOut, dictionary, numbers, namesIn, dictionaryNames}
+use Rattle.metadata.specs.Calls.{marked}
+use Rattle.container.specs.Layout.{listHeaderAt, listHeader, objectHeaderAt, largest, objectHeader}
+use Rattle.container.specs.Entries.{entriesOf, putEntries, seek, misplaced}
+use Rattle.container.specs.Sort.{insert, sort}
+use Rattle.container.specs.Close.{fronted}
+use Rattle.semantics.specs.Record.{rising, chained}
+use Rattle.semantics.specs.Damage.{overUsed, unchained, fallenEnds, misplacedInner, misplacedParent, damagedParent}
+use Rattle.semantics.specs.Table.{header, numberOf}
+use Rattle.semantics.specs.Step.{registered, appended, opened, newContainer, entriesClosed, closed, rolledBack, finished, dictionaryOf, after, step}
+use Rattle.semantics.specs.Step as steps
+use Rattle.semantics.specs.Tree.{dataOf, startsFrom, withField, fieldsFrom, listBytes, objectBytes, encode, partsOf}
+use Rattle.semantics.specs.History.{withName, unlive, replace, snoc, entered, enter, closeLevel, dropLevel, accepted, fed}
+use Rattle.semantics.specs.Ledger as ledger
+use Rattle.semantics.specs.Ledger.{itemCount, liveIds, isLive, noLedger, addTo, total, headerSize, ledgerAfter, marksAfter, entriesUsed, refusalOf}
+use Rattle.semantics.specs.Run.{run, accountAfter, refused, valueBytes, dictionaryBytes, runNames, historyFrom, historyOf, kept}
+use Rattle.semantics.specs.Outcomes.{outcomes, encoded, sameNames, accounted, gives, allGive}
+
+pub outcomes-hold : allGive outcomes ≡ true
+unfolding width le les number twos whole table follow rest utf8 write shift scalarBytes cuts namesOf risen intact same place below joined endsFrom laidOut dictionary marked listHeaderAt listHeader objectHeaderAt largest objectHeader entriesOf putEntries seek misplaced insert sort fronted overUsed rising chained unchained fallenEnds misplacedInner misplacedParent damagedParent header first numberOf registered appended opened newContainer entriesClosed closed rolledBack finished dictionaryOf after step steps.withUnique run valueBytes dictionaryBytes numbers namesIn dictionaryNames runNames refused historyFrom historyOf kept withName unlive replace snoc entered enter closeLevel dropLevel accepted fed dataOf startsFrom withField fieldsFrom listBytes objectBytes encode partsOf itemCount liveIds isLive noLedger addTo total headerSize ledger.sumsEntered ledgerAfter marksAfter entriesUsed refusalOf accountAfter accounted outcomes encoded sameNames gives allGive
+outcomes-hold = refl

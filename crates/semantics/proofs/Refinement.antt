@@ -1,0 +1,855 @@
+-- `step` over a record and its storage does what the machine does: a state that represents a machine of a run has the same
+-- numbers (never 1), and each call that is carried out leaves one that represents the machine after it.
+use mathlib.Core.Path.{_≡_, refl, sym, _∙_, ap}
+use mathlib.Core.Bool.{Bool, true, false, cond, not, _&&_, _||_, and-eq-true-iff, true≢false}
+use mathlib.Core.List.{List, [], _∷_, _++_, append-assoc}
+use mathlib.Core.Option.{Option, none, some}
+use Prim.Native.Nat.{ℕ, zero, suc, _+_, _-_, _*_, _^_, _≤_, _<_}
+use native.Mathlib.Nat.{zero-add}
+use native.Mathlib.Omega.{arith}
+use lib.Dec.{eqb, leb, ltb}
+use lib.ListN.{drop, getD, length, length-append, length-drop, length-set, set, take, take-append-drop}
+use lib.Seq.{length-take-le, take-take}
+use borrow.Author.Tests.{leb-true, leb-false, le-leb, lt-ltb, le-ltb, ltb-true, ltb-false, not-false, ne-eqb}
+use Rattle.encoding.specs.Rows.{Row, row, first, testOf}
+use Rattle.encoding.specs.Slices.{counted, fits, write}
+use Rattle.encoding.proofs.SliceLaws.{length-write}
+use Rattle.value.specs.Scalar.{scalarBytes}
+use Rattle.metadata.specs.declared.MetadataBuilder.{MetadataBuilder}
+use Rattle.metadata.specs.Names.{Name, below, place}
+use Rattle.metadata.specs.Bytes.{dictionary, dictionaryNames, joined, sizeOf}
+use Rattle.metadata.specs.Calls.{hasRoom, added, marked}
+use Rattle.metadata.proofs.BytesLaws.{intact-parts, dictionary-size, dictionary-read, size-least}
+use Rattle.metadata.proofs.DictionaryLaws.{Kept, place-low, place-added, kept-fresh, kept-added, kept-back, room}
+use Rattle.container.specs.declared.Entry.{Entry}
+use Rattle.container.specs.Entries.{entriesOf, entryAt, misplaced, putEntries, roomFor, seek, setEntry}
+use Rattle.container.proofs.EntryLaws.{length-set-entry, length-put, entry-of, seeks, fronted-end, length-fronted}
+use Rattle.container.specs.Close.{fronted}
+use Rattle.container.specs.Sort.{sort}
+use Rattle.semantics.specs.declared.Container.{Container}
+use Rattle.semantics.specs.declared.Counts.{Counts}
+use Rattle.semantics.specs.declared.ParentEntry.{ParentEntry}
+use Rattle.semantics.specs.declared.ParentEntry.the-variants.{New, Replaced}
+use Rattle.semantics.specs.declared.View.{View}
+use Rattle.semantics.specs.Record.{Storage, State, Scalars, Call, register, append, openIn, close, rollBack, uniqueness, finish, scalarOf, viewOf, isOpen, inObject, innerSize, innerEntries, parentEntries, namesHeld, uniqueNow}
+use Rattle.semantics.specs.Damage.{overUsed, unchained, fallenEnds, misplacedInner, misplacedParent, orphaned, damagedParent, misreadBy, misread, damaged}
+use Rattle.semantics.specs.Table.{scalarRows, rows, numberOf, misnamed, badName, idOf, held, live, liveUnder, namesFull, entriesFull, tooLong as tooLongFor, header}
+use Rattle.semantics.specs.Step.{dictionaryWith, textWith, endsWith, idFor, entriesWith, countWith, parentWith, registered, appended, opened, newContainer, entriesClosed, closed, entriesBack, countBack, rolledBack, finished, dictionaryOf, after}
+use Rattle.semantics.specs.Step as step
+use Rattle.semantics.specs.History.{withName, markWith}
+use Rattle.semantics.specs.Ledger.{fullFor}
+use Rattle.semantics.specs.Run.{Fresh, lentBy, valueBytes}
+use Rattle.semantics.proofs.Demand1.{none-at, append-at}
+use Rattle.semantics.proofs.Machine.{Machine, put, find, note, noteIn, linkOf, linkIn, undo, headerOf, closeAt, rollAt, markAt, apply, uniqueAt, anyOpen, objectInner, misnamedAt, liveAt, noEntryFree, tooLong, headerAt, numberAt, Rising, InnerPlaced, ParentPlaced, Orderly}
+use Rattle.semantics.proofs.StorageLaws.{not-ltb, take-write, drop-write, seek-high, put-new, find-new, find-there, Used, used-count, used-from, used-between, used-cut, used-moved, used-added, used-kept, stackOf, topOf, nextOf, length-stack, stack-top, stack-next, stack-set, stack-pop, stack-chained}
+
+-- ---- what is represented
+
+-- by the counts and the storage
+pub record Stored (c : Counts) (l : Storage) (m : Machine) : Type 0 where
+  pub value : c .value ≡ length (m .bytes)
+  pub bytes : take (c .value) (l .value) ≡ m .bytes
+  pub within : c .value ≤ counted (length (l .value))
+  pub names : Kept (c .dictionary) (l .text) (l .ends) (m .names)
+  pub sorted : c .dictionary .sorted ≡ m .sorted
+  pub entries : Used (l .entries) (c .entries) (m .entries)
+  pub unique : c .unique ≡ m .unique
+  pub finished : c .finished ≡ m .finished
+
+-- by a state: the open containers too, the innermost first
+pub record Represents (s : State) (m : Machine) : Type 0 where
+  pub stored : Stored (s .builder .counts) (s .storage) m
+  pub stack : stackOf (s .builder .containers) (s .builder .counts .depth) ≡ m .conts
+  pub size : length (s .builder .containers) ≡ 64
+
+-- by what a call sees
+pub record Sees (v : View) (l : Storage) (m : Machine) : Type 0 where
+  pub stored : Stored (v .counts) l m
+  pub depth : v .counts .depth ≡ length (m .conts)
+  pub inner : v .inner ≡ topOf (m .conts)
+  pub parent : v .parent ≡ nextOf (m .conts)
+  pub chain : v .chain ≡ true
+
+pub represents-depth : {s : State} {m : Machine} → Represents s m → s .builder .counts .depth ≡ length (m .conts)
+represents-depth {s} r = sym (length-stack (s .builder .containers) (s .builder .counts .depth)) ∙ ap length (r .stack)
+
+-- what a call sees of a state that represents m
+pub sees : {s : State} {m : Machine} → Represents s m → Orderly m → Sees (viewOf (s .builder)) (s .storage) m
+sees {s} {m} r o =
+    let ks = s .builder .containers in
+    let d = s .builder .counts .depth in
+    record {
+      stored = r .stored;
+      depth = represents-depth r;
+      inner = stack-top ks d ∙ ap topOf (r .stack);
+      parent = stack-next ks d ∙ ap nextOf (r .stack);
+      chain = (let k = o .depth in let e = represents-depth r in stack-chained ks d (length (m .bytes)) (length (m .names)) (length (joined (m .names))) (length (m .entries)) (rw (r .stack) (o .rising)) (omega arith));
+    }
+
+-- ---- what a call reads is the machine's
+
+open-stack : (ks : List Container) → ltb 0 (length ks) ≡ anyOpen ks
+open-stack [] = refl
+open-stack (k ∷ ks) = lt-ltb 0 (suc (length ks)) (omega arith)
+
+in-stack : (ks : List Container) → (anyOpen ks && topOf ks .object) ≡ objectInner ks
+in-stack [] = refl
+in-stack (k ∷ ks) = refl
+
+unique-stack : (m : Machine) (ks : List Container) → cond (anyOpen ks) (topOf ks .unique) (m .unique) ≡ uniqueAt m ks
+unique-stack m [] = refl
+unique-stack m (k ∷ ks) = refl
+
+live-stack : (m : Machine) (n : Name) (ks : List Container) → let es = drop (topOf ks .entries) (m .entries) in
+    (anyOpen ks && (ltb (place n (m .names)) (length (m .names)) && ltb (seek (place n (m .names)) es) (length es))) ≡ liveAt m (some n) ks
+live-stack m n [] = refl
+live-stack m n (k ∷ ks) = refl
+
+module _ {v : View} {l : Storage} {m : Machine} (s : Sees v l m) where
+  used : Used (l .entries) (v .counts .entries) (m .entries)
+  used = s .stored .entries
+
+  count-law : v .counts .entries ≡ length (m .entries)
+  count-law = sym (used-count used)
+
+  names-law : namesHeld v l ≡ m .names
+  names-law = s .stored .names .holds .names
+
+  many-law : v .counts .dictionary .names ≡ length (m .names)
+  many-law = sym (s .stored .names .holds .count)
+
+  text-law : v .counts .dictionary .text ≡ length (joined (m .names))
+  text-law = sym (s .stored .names .holds .total)
+
+  open-law : isOpen v ≡ anyOpen (m .conts)
+  open-law = ap (ltb 0) (s .depth) ∙ open-stack (m .conts)
+
+  in-law : inObject v ≡ objectInner (m .conts)
+  in-law = (λ i. open-law i && s .inner i .object) ∙ in-stack (m .conts)
+
+  unique-law : uniqueNow v ≡ uniqueAt m (m .conts)
+  unique-law = (λ i. cond (open-law i) (s .inner i .unique) (s .stored .unique i)) ∙ unique-stack m (m .conts)
+
+  size-law : innerSize v ≡ length (m .bytes) - topOf (m .conts) .value
+  size-law i = s .stored .value i - s .inner i .value
+
+  entries-law : innerEntries v l ≡ drop (topOf (m .conts) .entries) (m .entries)
+  entries-law = (λ i. entriesOf (l .entries) (s .inner i .entries) (v .counts .entries - s .inner i .entries)) ∙ used-from used (topOf (m .conts) .entries)
+
+  id-law : (n : Name) → idOf v l n ≡ place n (m .names)
+  id-law n = ap (place n) names-law
+
+  held-law : (n : Name) → held v l n ≡ ltb (place n (m .names)) (length (m .names))
+  held-law n i = ltb (id-law n i) (many-law i)
+
+  live-law : (nm : Option Name) → liveUnder v l nm ≡ liveAt m nm (m .conts)
+  live-law none = refl
+  live-law (some n) = (λ i. open-law i && (held-law n i && ltb (seek (id-law n i) (entries-law i)) (length (entries-law i)))) ∙ live-stack m n (m .conts)
+
+  header-law : header v l ≡ headerOf (m .names) (topOf (m .conts) .object) (drop (topOf (m .conts) .entries) (m .entries)) (length (m .bytes) - topOf (m .conts) .value)
+  unfolding header headerOf
+  header-law i = headerOf (names-law i) (s .inner i .object) (entries-law i) (size-law i)
+
+  -- the rows' tests
+  misnamed-law : (nm : Option Name) → misnamed nm v ≡ misnamedAt nm (m .conts)
+  misnamed-law none = in-law
+  misnamed-law (some n) = ap not in-law
+
+  full-law : (nm : Option Name) → namesFull v l nm ≡ fullFor (lentBy l) (m .names) nm
+  full-law none = refl
+  full-law (some n) =
+      (λ i. not (held-law n i) && not (ltb (many-law i) (length (l .ends)) && fits (text-law i) (length n) (length (l .text))))
+      ∙ ap (λ t. t && not (ltb (length (m .names)) (length (l .ends)) && fits (length (joined (m .names))) (length n) (length (l .text)))) (not-ltb (place n (m .names)) (length (m .names)))
+
+  free-law : (nm : Option Name) → entriesFull v l nm ≡ noEntryFree m (lentBy l) nm
+  free-law nm i = (open-law i && not (live-law nm i)) && leb (roomFor (length (l .entries))) (count-law i)
+
+-- ---- number 1 does not come
+
+neither : (t u : Bool) → t ≡ false → u ≡ false → (t || u) ≡ false
+neither t u p q = rw (p, q)
+
+-- the innermost's starting marks lie within the counts
+record Low (k : Container) (a b c e : ℕ) : Type 0 where
+  value : k .value ≤ a
+  names : k .names ≤ b
+  text : k .text ≤ c
+  entries : k .entries ≤ e
+
+low-stack : (ks : List Container) (a b c e : ℕ) → Rising ks a b c e → Low (topOf ks) a b c e
+low-stack [] a b c e r = record { value = omega arith; names = omega arith; text = omega arith; entries = omega arith }
+low-stack (k ∷ ks) a b c e r = record { value = r .0; names = r .1; text = r .2; entries = r .3 }
+
+module _ {v : View} {l : Storage} {m : Machine} (s : Sees v l m) (o : Orderly m) where
+  low : Low (topOf (m .conts)) (length (m .bytes)) (length (m .names)) (length (joined (m .names))) (length (m .entries))
+  low = low-stack (m .conts) _ _ _ _ (o .rising)
+
+  over-none : overUsed v l ≡ false
+  unfolding overUsed
+  over-none =
+      let h = s .stored .names .holds in
+      neither _ _ (le-ltb (counted (length (l .value))) (v .counts .value) (s .stored .within))
+      (neither _ _ (neither _ _ (le-ltb (counted (length (l .text))) (v .counts .dictionary .text) (h .inText)) (le-ltb (length (l .ends)) (v .counts .dictionary .names) (h .inEnds)))
+      (le-ltb (roomFor (length (l .entries))) (v .counts .entries) (used s .room)))
+
+  chain-none : unchained v ≡ false
+  unfolding unchained
+  chain-none =
+      let k = topOf (m .conts) in
+      let w = low in
+      let x1 = le-leb (k .value) (length (m .bytes)) (w .value) in
+      let x2 = le-leb (k .names) (length (m .names)) (w .names) in
+      let x3 = le-leb (k .text) (length (joined (m .names))) (w .text) in
+      let x4 = le-leb (k .entries) (length (m .entries)) (w .entries) in
+      (λ i. not (s .chain i && (leb (s .inner i .value) (s .stored .value i) && (leb (s .inner i .names) (many-law s i) && (leb (s .inner i .text) (text-law s i) && leb (s .inner i .entries) (count-law s i))))))
+      ∙ (λ i. not (x1 i && (x2 i && (x3 i && x4 i))))
+
+  ends-none : fallenEnds v l ≡ false
+  unfolding fallenEnds
+  ends-none = ap not (intact-parts (v .counts .dictionary) (l .text) (l .ends) (s .stored .names .holds .sound) .rise)
+
+  inner-none : misplacedInner v l ≡ false
+  unfolding misplacedInner
+  inner-none = (λ i. open-law s i && misplaced (s .inner i .object) (many-law s i) (size-law s i) (entries-law s i)) ∙ go (m .conts) (o .inner)
+    where
+      go : (ks : List Container) → InnerPlaced m ks
+          → (anyOpen ks && misplaced (topOf ks .object) (length (m .names)) (length (m .bytes) - topOf ks .value) (drop (topOf ks .entries) (m .entries))) ≡ false
+      go [] h = refl
+      go (k ∷ ks) h = h .0
+
+  parent-entries : parentEntries v l ≡ take (topOf (m .conts) .entries - nextOf (m .conts) .entries) (drop (nextOf (m .conts) .entries) (m .entries))
+  parent-entries =
+      let w = low in
+      let c = count-law s in
+      (λ i. entriesOf (l .entries) (s .parent i .entries) (s .inner i .entries - s .parent i .entries)) ∙ used-between (used s) (nextOf (m .conts) .entries) (topOf (m .conts) .entries) (omega arith)
+
+  parent-none : damagedParent v l ≡ false
+  unfolding damagedParent misplacedParent
+  parent-none =
+      (λ i. ltb 1 (s .depth i) && (misplaced (s .parent i .object) (many-law s i) (s .inner i .value - s .parent i .value) (parent-entries i)
+      || orphaned (s .inner i .parent) (s .parent i .object) (s .inner i .value - s .parent i .value) (parent-entries i)))
+      ∙ go (m .conts) (o .parent)
+    where
+      go : (ks : List Container) → ParentPlaced m ks → let es = take (topOf ks .entries - nextOf ks .entries) (drop (nextOf ks .entries) (m .entries)) in
+          (ltb 1 (length ks) && (misplaced (nextOf ks .object) (length (m .names)) (topOf ks .value - nextOf ks .value) es
+          || orphaned (topOf ks .parent) (nextOf ks .object) (topOf ks .value - nextOf ks .value) es)) ≡ false
+      go [] h = refl
+      go (k ∷ []) h = refl
+      go (k ∷ (p ∷ ks)) h = rw (lt-ltb 1 (suc (suc (length ks))) (omega arith)) (neither _ _ (h .0) (h .1))
+
+  named-none : (nm : Option Name) → misreadBy v l nm ≡ false
+  named-none none = refl
+  named-none (some n) = neither _ _ ends-none inner-none
+
+  misread-none : (c : Call) → misread v l c ≡ false
+  misread-none (register n) = ends-none
+  misread-none (append nm x) = named-none nm
+  misread-none (openIn nm k) = named-none nm
+  misread-none close = neither _ _ ends-none inner-none
+  misread-none rollBack = parent-none
+  misread-none (uniqueness u) = refl
+  misread-none (finish out) = ends-none
+
+  damaged-none : (c : Call) → damaged v l (misread v l c) ≡ false
+  damaged-none c = neither _ _ over-none (neither _ _ chain-none (misread-none c))
+
+  -- ---- the numbers
+
+  sees-number : (c : Call) → numberOf v l c ≡ numberAt m (lentBy l) c
+  unfolding numberOf numberAt first
+  sees-number (register n) = λ i.
+      first (row 1 (damaged-none (register n) i) ∷ (row 2 (s .stored .finished i) ∷ (row 4 (open-law s i) ∷ (row 9 (badName (some n)) ∷ (row 12 (full-law s (some n) i) ∷ [])))))
+  sees-number (append nm x) = λ i.
+      first (row 1 (damaged-none (append nm x) i)
+      ∷ (row 2 (s .stored .finished i)
+      ∷ (row 5 (misnamed-law s nm i)
+      ∷ (row 6 (not (open-law s i) && ltb 0 (s .stored .value i))
+      ∷ (scalarRows x
+      ++ (row 9 (badName nm)
+      ∷ (row 10 (unique-law s i && live-law s nm i)
+      ∷ (row 12 (full-law s nm i)
+      ∷ (row 13 (free-law s nm i) ∷ (row 14 (not (fits (s .stored .value i) (length (scalarBytes (scalarOf x))) (length (l .value)))) ∷ []))))))))))
+  sees-number (openIn nm k) = λ i.
+      first (row 1 (damaged-none (openIn nm k) i)
+      ∷ (row 2 (s .stored .finished i)
+      ∷ (row 5 (misnamed-law s nm i)
+      ∷ (row 6 (not (open-law s i) && ltb 0 (s .stored .value i))
+      ∷ (row 9 (badName nm)
+      ∷ (row 10 (unique-law s i && live-law s nm i)
+      ∷ (row 11 (leb 64 (s .depth i)) ∷ (row 12 (full-law s nm i) ∷ (row 13 (free-law s nm i) ∷ [])))))))))
+  sees-number close =
+      (λ i. first (row 1 (damaged-none close i)
+      ∷ (row 2 (s .stored .finished i) ∷ (row 3 (not (open-law s i)) ∷ (row 14 (not (fits (s .stored .value i) (length (header-law s i)) (length (l .value)))) ∷ [])))))
+      ∙ go (m .conts)
+    where
+      rest : Bool → Bool → List Row
+      rest t u = row 2 (m .finished) ∷ (row 3 (not t) ∷ (row 14 u ∷ []))
+
+      go : (ks : List Container) → let es = drop (topOf ks .entries) (m .entries) in
+          first (rest (anyOpen ks) (tooLong m (lentBy l) (length (headerOf (m .names) (topOf ks .object) es (length (m .bytes) - topOf ks .value)))))
+          ≡ first (rest (anyOpen ks) (tooLong m (lentBy l) (length (headerAt m ks))))
+      go [] = refl
+      go (k ∷ ks) = refl
+  sees-number rollBack = λ i. first (row 1 (damaged-none rollBack i) ∷ (row 2 (s .stored .finished i) ∷ (row 3 (not (open-law s i)) ∷ [])))
+  sees-number (uniqueness u) = λ i. first (row 1 (damaged-none (uniqueness u) i) ∷ (row 2 (s .stored .finished i) ∷ (row 3 (not (in-law s i)) ∷ [])))
+  sees-number (finish out) = λ i.
+      first (row 1 (damaged-none (finish out) i)
+      ∷ (row 2 (s .stored .finished i)
+      ∷ (row 4 (open-law s i)
+      ∷ (row 15 (eqb (s .stored .value i) 0) ∷ (row 16 (not (leb (sizeOf (many-law s i) (text-law s i)) (counted (length out)))) ∷ [])))))
+
+-- the numbers are the machine's, so that number 1 never comes
+pub represents-number : {s : State} {m : Machine} → Represents s m → Orderly m → (c : Call) → numberOf (viewOf (s .builder)) (s .storage) c ≡ numberAt m (lentBy (s .storage)) c
+represents-number r o c = sees-number (sees r o) o c
+
+-- ---- a name given
+
+-- the dictionary then, and what the lent lists are
+record Named (d : MetadataBuilder) (text ends : List ℕ) (l : Storage) (ns : List Name) (mark : Bool) : Type 0 where
+  kept : Kept d text ends ns
+  sorted : d .sorted ≡ mark
+  text-size : length text ≡ length (l .text)
+  ends-size : length ends ≡ length (l .ends)
+
+first-mark : (n : ℕ) (t : Bool) → cond (eqb n 0) true t ≡ cond (ltb 0 n) t true
+first-mark zero t = refl
+first-mark (suc n) t = rw (ne-eqb (suc n) 0 (λ q. omega arith), lt-ltb 0 (suc n) (omega arith))
+
+-- a name that may be new has its place where it is looked for
+place-with : (n : Name) (ns : List Name) → place n (withName ns (some n)) ≡ place n ns
+unfolding withName
+place-with n ns = go (ltb (place n ns) (length ns)) refl
+  where
+    go : (t : Bool) → ltb (place n ns) (length ns) ≡ t → place n (cond t ns (ns ++ (n ∷ []))) ≡ place n ns
+    go true e = refl
+    go false e = let q : place n ns ≡ length ns = omega (arith, ltb-false (place n ns) (length ns) e, place-low n ns) in place-added n ns q ∙ sym q
+
+module _ {v : View} {l : Storage} {m : Machine} (s : Sees v l m) where
+  names-with : (nm : Option Name) → namesFull v l nm ≡ false → Named (dictionaryWith v l nm) (textWith v l nm) (endsWith v l nm) l (withName (m .names) nm) (markWith (m .names) (m .sorted) nm)
+  unfolding withName markWith marked
+  names-with none h = record { kept = s .stored .names; sorted = s .stored .sorted; text-size = refl; ends-size = refl }
+  names-with (some n) h = rw (held-law s n) (go (ltb (place n ns) (length ns)) refl (rw (held-law s n) at h))
+    where
+      d : MetadataBuilder
+      d = v .counts .dictionary
+
+      ns : List Name
+      ns = m .names
+
+      go : (t : Bool) → ltb (place n ns) (length ns) ≡ t → (not t && not (hasRoom d (l .text) (l .ends) n)) ≡ false
+          → Named (cond t d (added d (l .text) (l .ends) n)) (cond t (l .text) (write (d .text) n (l .text))) (cond t (l .ends) (set (l .ends) (d .names) (d .text + length n))) l
+          (cond t ns (ns ++ (n ∷ []))) (cond t (m .sorted) (cond (ltb 0 (length ns)) (m .sorted && below (getD ns (length ns - 1) []) n) true))
+      go true e h = record { kept = s .stored .names; sorted = s .stored .sorted; text-size = refl; ends-size = refl }
+      go false e h =
+          let r = not-false (hasRoom d (l .text) (l .ends) n) h in
+          let b = room d (l .text) (l .ends) n r in
+          let q : place n ns ≡ length ns = omega (arith, ltb-false (place n ns) (length ns) e, place-low n ns) in
+          record {
+            kept = kept-added n (s .stored .names) q r;
+            sorted = (λ i. cond (eqb (many-law s i) 0) true (s .stored .sorted i && below (getD (names-law s i) (many-law s i - 1) []) n)) ∙ first-mark (length ns) _;
+            text-size = (let c = b .inText in length-write (d .text) n (l .text) (omega arith));
+            ends-size = length-set (l .ends) (d .names) (d .text + length n);
+          }
+
+-- ---- the next value's entry
+
+-- the id in it, by the machine's names
+abbrev idAt : Machine → Option Name → ℕ
+idAt m none = 0
+idAt m (some n) = place n (m .names)
+
+used-by : {l l' : List ℕ} {n n' : ℕ} {es : List Entry} → l' ≡ l → n' ≡ n → Used l n es → Used l' n' es
+used-by p q u = rw (p, q) u
+
+-- what `entriesWith` and `parentWith` leave, of the parts that they read
+abbrev entriesFor : List ℕ → ℕ → Bool → Bool → ℕ → ℕ → ℕ → List Entry → List ℕ
+entriesFor l n any live id base o es = cond (any && not live) (setEntry l n (record { id = id; offset = o })) (cond live (set l (2 * (base + seek id es) + 1) o) l)
+
+abbrev parentFor : List ℕ → Bool → ℕ → ℕ → List Entry → ParentEntry
+parentFor l live id base es = cond live (Replaced id (entryAt l (base + seek id es) .offset)) New
+
+-- in an object a name is live exactly where its id is found
+module _ (m : Machine) (k : Container) (ks : List Container) (n : Name) (p : InnerPlaced m (k ∷ ks)) (object : k .object ≡ true) where
+  live-found : liveAt m (some n) (k ∷ ks) ≡ true → seek (place n (m .names)) (drop (k .entries) (m .entries)) < length (drop (k .entries) (m .entries))
+  live-found e = ltb-true _ _ (and-eq-true-iff (ltb (place n (m .names)) (length (m .names))) _ .0 e .1)
+
+  not-found : liveAt m (some n) (k ∷ ks) ≡ false → seek (place n (m .names)) (drop (k .entries) (m .entries)) ≡ length (drop (k .entries) (m .entries))
+  not-found = go (ltb (place n ns) (length ns)) refl
+    where
+      ns : List Name
+      ns = m .names
+
+      es : List Entry
+      es = drop (k .entries) (m .entries)
+
+      go : (t : Bool) → ltb (place n ns) (length ns) ≡ t → (t && ltb (seek (place n ns) es) (length es)) ≡ false → seek (place n ns) es ≡ length es
+      go true q e = let b = seeks (place n ns) es .bound in omega (arith, ltb-false (seek (place n ns) es) (length es) e)
+      go false q e =
+          let a : place n ns ≡ length ns = omega (arith, ltb-false (place n ns) (length ns) q, place-low n ns) in
+          rw a (seek-high (length ns) (length (m .bytes) - k .value) es (rw object at (p .0)))
+
+module _ {l : List ℕ} {c : ℕ} (m : Machine) (u : Used l c (m .entries)) where
+  -- the entries with one more or one moved
+  note-law : (nm : Option Name) (ks : List Container) → InnerPlaced m ks → topOf ks .entries ≤ c → misnamedAt nm ks ≡ false
+      → ((anyOpen ks && not (liveAt m nm ks)) && leb (roomFor (length l)) c) ≡ false → let es = drop (topOf ks .entries) (m .entries) in
+      Used (entriesFor l c (anyOpen ks) (liveAt m nm ks) (idAt m nm) (topOf ks .entries) (length (m .bytes) - topOf ks .value) es) (cond (anyOpen ks && not (liveAt m nm ks)) (c + 1) c)
+      (note (withName (m .names) nm) ks nm (length (m .bytes)) (m .entries))
+  unfolding note noteIn
+  note-law none [] p w h f = u
+  note-law (some n) [] p w h f = u
+  note-law none (k ∷ ks) p w h f =
+      rw (← append-assoc, take-append-drop) (used-added u (record { id = 0; offset = length (m .bytes) - k .value }) (leb-false (roomFor (length l)) c f))
+  note-law (some n) (k ∷ ks) p w h f = rw place-with (go (liveAt m (some n) (k ∷ ks)) refl f)
+    where
+      es : List Entry
+      es = drop (k .entries) (m .entries)
+
+      i : ℕ
+      i = place n (m .names)
+
+      o : ℕ
+      o = length (m .bytes) - k .value
+
+      go : (t : Bool) → liveAt m (some n) (k ∷ ks) ≡ t → (not t && leb (roomFor (length l)) c) ≡ false
+          → Used (entriesFor l c true t i (k .entries) o es) (cond (not t) (c + 1) c) (take (k .entries) (m .entries) ++ put i o es)
+      go true e f = used-moved u i o (k .entries) w (live-found m k ks n p (not-false _ h) e)
+      go false e f =
+          rw (put-new i o es (not-found m k ks n p (not-false _ h) e), ← append-assoc, take-append-drop) (used-added u (record { id = i; offset = o }) (leb-false (roomFor (length l)) c f))
+
+  -- how it came about
+  link-law : (nm : Option Name) (ks : List Container) → InnerPlaced m ks → misnamedAt nm ks ≡ false
+      → parentFor l (liveAt m nm ks) (idAt m nm) (topOf ks .entries) (drop (topOf ks .entries) (m .entries)) ≡ linkOf (withName (m .names) nm) ks nm (m .entries)
+  unfolding linkOf linkIn
+  link-law none [] p h = refl
+  link-law (some n) [] p h = refl
+  link-law none (k ∷ ks) p h = refl
+  link-law (some n) (k ∷ ks) p h = rw place-with (go (liveAt m (some n) (k ∷ ks)) refl)
+    where
+      es : List Entry
+      es = drop (k .entries) (m .entries)
+
+      i : ℕ
+      i = place n (m .names)
+
+      go : (t : Bool) → liveAt m (some n) (k ∷ ks) ≡ t → parentFor l t i (k .entries) es ≡ find i es
+      go true e =
+          let f = live-found m k ks n p (not-false _ h) e in
+          let d : Entry = record { id = 0; offset = 0 } in
+          let g : seek i es < c - k .entries = (let a = used-count u in omega (arith, length-drop (k .entries) (m .entries))) in
+          let q : getD es (seek i es) d ≡ entryAt l (k .entries + seek i es) = ap (λ z. getD z (seek i es) d) (sym (used-from u (k .entries))) ∙ entry-of l (k .entries) (c - k .entries) (seek i es) d g in
+          sym (find-there i es d f ∙ ap (λ z. Replaced i (z .offset)) q)
+      go false e = sym (find-new i es (not-found m k ks n p (not-false _ h) e))
+
+-- the lent list is as long as before
+note-size : (l : List ℕ) (c : ℕ) (any live : Bool) (id base o : ℕ) (es : List Entry) → length (entriesFor l c any live id base o es) ≡ length l
+note-size l c true true id base o es = length-set l (2 * (base + seek id es) + 1) o
+note-size l c true false id base o es = length-set-entry l c (record { id = id; offset = o })
+note-size l c false true id base o es = length-set l (2 * (base + seek id es) + 1) o
+note-size l c false false id base o es = refl
+
+module _ {v : View} {l : Storage} {m : Machine} (s : Sees v l m) (o : Orderly m) (nm : Option Name) (named : misnamed nm v ≡ false) where
+  fresh-id : idFor v l nm ≡ idAt m nm
+  fresh-id = go nm
+    where
+      go : (nm : Option Name) → idFor v l nm ≡ idAt m nm
+      go none = refl
+      go (some n) = id-law s n
+
+  named-at : misnamedAt nm (m .conts) ≡ false
+  named-at = sym (misnamed-law s nm) ∙ named
+
+  entries-with : entriesFull v l nm ≡ false → Used (entriesWith v l nm) (countWith v l nm) (note (withName (m .names) nm) (m .conts) nm (length (m .bytes)) (m .entries))
+  entries-with f =
+      let w = low s o in
+      let c = count-law s in
+      let g = note-law m (used s) nm (m .conts) (o .inner) (omega arith) named-at (rw c (sym (free-law s nm) ∙ f)) in
+      used-by (λ i. entriesFor (l .entries) (v .counts .entries) (open-law s i) (live-law s nm i) (fresh-id i) (s .inner i .entries) (size-law s i) (entries-law s i))
+      (λ i. cond (open-law s i && not (live-law s nm i)) (v .counts .entries + 1) (v .counts .entries)) g
+
+  entries-size : length (entriesWith v l nm) ≡ length (l .entries)
+  entries-size = note-size (l .entries) (v .counts .entries) (isOpen v) (liveUnder v l nm) (idFor v l nm) (v .inner .entries) (innerSize v) (innerEntries v l)
+
+  parent-with : parentWith v l nm ≡ linkOf (withName (m .names) nm) (m .conts) nm (m .entries)
+  parent-with =
+      (λ i. parentFor (l .entries) (live-law s nm i) (fresh-id i) (s .inner i .entries) (entries-law s i)) ∙ link-law m (used s) nm (m .conts) (o .inner) named-at
+
+-- ---- what each call leaves
+
+-- rows 5, 12 and 13, where a value may enter under a name or none
+record Admits (v : View) (l : Storage) (nm : Option Name) : Type 0 where
+  named : misnamed nm v ≡ false
+  full : namesFull v l nm ≡ false
+  free : entriesFull v l nm ≡ false
+
+module _ {v : View} {l : Storage} {m : Machine} (s : Sees v l m) where
+  -- bytes behind the used ones
+  fits-law : (n : ℕ) → tooLongFor v l n ≡ false → v .counts .value + n ≤ counted (length (l .value))
+  fits-law n h = leb-true _ _ (not-false _ h)
+
+  register-law : (n : Name) → namesFull v l (some n) ≡ false → Stored (registered v l n .counts) (registered v l n .storage) (apply m (register n))
+  unfolding registered apply
+  register-law n h =
+      let t = s .stored in
+      let w = names-with s (some n) h in
+      record { value = t .value; bytes = t .bytes; within = t .within; names = w .kept; sorted = w .sorted; entries = t .entries; unique = t .unique; finished = t .finished }
+
+  finish-law : (out : List ℕ) → Stored (finished (v .counts)) l (apply m (finish out))
+  unfolding finished apply
+  finish-law out =
+      let t = s .stored in
+      record { value = t .value; bytes = t .bytes; within = t .within; names = t .names; sorted = t .sorted; entries = t .entries; unique = t .unique; finished = refl }
+
+  module _ (o : Orderly m) where
+    append-law : (nm : Option Name) (x : Scalars) → Admits v l nm → tooLongFor v l (length (scalarBytes (scalarOf x))) ≡ false
+        → Stored (appended v l nm x .counts) (appended v l nm x .storage) (apply m (append nm x))
+    unfolding appended apply
+    append-law nm x a d =
+        let t = s .stored in
+        let w = names-with s nm (a .full) in
+        let bs = scalarBytes (scalarOf x) in
+        let f = fits-law (length bs) d in
+        record {
+          value = ap (λ n. n + length bs) (t .value) ∙ sym (length-append (m .bytes) bs);
+          bytes = take-write (v .counts .value) bs (l .value) (omega arith) ∙ ap (λ z. z ++ bs) (t .bytes);
+          within = rw (length-write (v .counts .value) bs (l .value) (omega arith)) f;
+          names = w .kept;
+          sorted = w .sorted;
+          entries = entries-with s o nm (a .named) (a .free);
+          unique = t .unique;
+          finished = t .finished;
+        }
+
+    open-stored : (nm : Option Name) (object : Bool) → Admits v l nm → Stored (opened v l nm .counts) (opened v l nm .storage) (apply m (openIn nm object))
+    unfolding opened apply
+    open-stored nm object a =
+        let t = s .stored in
+        let w = names-with s nm (a .full) in
+        record { value = t .value; bytes = t .bytes; within = t .within; names = w .kept; sorted = w .sorted; entries = entries-with s o nm (a .named) (a .free); unique = t .unique; finished = t .finished }
+
+    open-container : (nm : Option Name) (object : Bool) → Admits v l nm → newContainer v l nm object ∷ m .conts ≡ apply m (openIn nm object) .conts
+    unfolding newContainer apply
+    open-container nm object a =
+        let e = sym (used-count (entries-with s o nm (a .named) (a .free))) in
+        let p = parent-with s o nm (a .named) in
+        λ i. record { value = s .stored .value i; names = many-law s i; text = text-law s i; entries = e i; parent = p i; object = object; unique = unique-law s i } ∷ m .conts
+
+-- the bytes and the entries before a mark
+before-mark : (k n : ℕ) (value bytes : List ℕ) → take n value ≡ bytes → k ≤ n → take k value ≡ take k bytes
+before-mark k n value bytes e h = sym (take-take k n value h) ∙ ap (take k) e
+
+closed-entries : {l : List ℕ} {n : ℕ} {es : List Entry} (t : Bool) (k : ℕ) (fs : List Entry) → Used l n es → k ≤ n → Used (cond t (putEntries k fs l) l) k (take k es)
+closed-entries true k fs u h = used-kept u k fs h
+closed-entries false k fs u h = used-cut u k h
+
+-- what `entriesBack` leaves, of the parts that it reads
+abbrev backFor : List ℕ → ParentEntry → ℕ → List Entry → List ℕ
+backFor l New base es = l
+backFor l (Replaced id o) base es = set l (2 * (base + seek id es) + 1) o
+
+back-for : (v : View) (l : Storage) (p : ParentEntry) → entriesBack v l p ≡ backFor (l .entries) p (v .parent .entries) (parentEntries v l)
+back-for v l New = refl
+back-for v l (Replaced id o) = refl
+
+-- the parent's entries without the child's own; j is the parent's mark, k the child's
+back-law : {l : List ℕ} {n : ℕ} {es : List Entry} (u : Used l n es) (p : ParentEntry) (object : Bool) (size k : ℕ) (parent : Container) (js : List Container) → let j = parent .entries in
+    j ≤ k → k ≤ n → orphaned p object size (take (k - j) (drop j es)) ≡ false → Used (backFor l p j (take (k - j) (drop j es))) (countBack k p) (undo (parent ∷ js) p (take k es))
+unfolding undo
+back-law u New object size k parent js g h f =
+    let c = used-cut u k h in
+    rw (used-count c) (used-cut c (k - 1) (omega arith))
+back-law {es = es} u (Replaced i o) object size k parent js g h f =
+    let j = parent .entries in
+    let c = used-cut u k h in
+    let e : take (k - j) (drop j es) ≡ drop j (take k es) = sym (used-between u j k h) ∙ used-from c j in
+    let x : ltb (seek i (take (k - j) (drop j es))) (length (take (k - j) (drop j es))) ≡ true = found object _ (ltb size o) f in
+    rw e (used-moved c i o j g (ltb-true _ _ (rw e at x)))
+  where
+    found : (object t u : Bool) → (not object || (not t || u)) ≡ false → t ≡ true
+    found true true u h = refl
+    found true false u h = absurd (true≢false h)
+    found false t u h = absurd (true≢false h)
+
+module _ {v : View} {l : Storage} {m : Machine} (s : Sees v l m) (o : Orderly m) where
+  -- the marks of the innermost, as the view has them
+  record Innermost (k : Container) : Type 0 where
+    is : v .inner ≡ k
+    value : v .inner .value ≤ v .counts .value
+    names : v .inner .names ≤ v .counts .dictionary .names
+    entries : v .inner .entries ≤ v .counts .entries
+
+  innermost-law : Innermost (topOf (m .conts))
+  innermost-law =
+      let w = low s o in
+      let e = s .inner in
+      let a = count-law s in
+      let b = many-law s in
+      let c = s .stored .value in
+      record {
+        is = e;
+        value = rw e (omega arith);
+        names = rw e (omega arith);
+        entries = rw e (omega arith);
+      }
+
+  close-law : (js : List Container) → m .conts ≡ js → anyOpen js ≡ true → tooLongFor v l (length (header v l)) ≡ false → Stored (closed v l .counts) (closed v l .storage) (closeAt m js)
+  unfolding closed entriesClosed
+  close-law [] e h f = absurd (true≢false (sym h))
+  close-law (k ∷ ks) e h f =
+      let t = s .stored in
+      let i : Innermost k = rw (ap topOf e) at innermost-law in
+      let room = fits-law s (length (header v l)) f in
+      let size : length (m .bytes) - k .value ≡ length (drop (k .value) (m .bytes)) = sym (length-drop (k .value) (m .bytes)) in
+      let hl : header v l ≡ headerOf (m .names) (k .object) (drop (k .entries) (m .entries)) (length (drop (k .value) (m .bytes))) = rw (← size) (rw (ap topOf e) at (header-law s)) in
+      let b : take (v .inner .value) (l .value) ≡ take (v .inner .value) (m .bytes) = before-mark (v .inner .value) (v .counts .value) (l .value) (m .bytes) (t .bytes) (i .value) in
+      let r : v .counts .value + length (header v l) ≤ length (l .value) = omega arith in
+      let all : take (v .counts .value + length (header v l)) (fronted (v .inner .value) (v .counts .value) (header v l) (l .value)) ≡ closeAt m (k ∷ ks) .bytes =
+      fronted-end (v .inner .value) (v .counts .value) (header v l) (l .value) (i .value) r ∙ (λ z. b z ++ (header v l ++ drop (v .inner .value) (t .bytes z)))
+      ∙ (λ z. take (i .is z .value) (m .bytes) ++ (hl z ++ drop (i .is z .value) (m .bytes))) in
+      let n = length-fronted (v .inner .value) (v .counts .value) (header v l) (l .value) (i .value) r in
+      record {
+        value = sym (length-take-le (v .counts .value + length (header v l)) _ (rw n r)) ∙ ap length all;
+        bytes = all;
+        within = rw n room;
+        names = t .names;
+        sorted = t .sorted;
+        entries = rw (← i .is) (closed-entries (v .inner .object) (v .inner .entries) _ (used s) (i .entries));
+        unique = t .unique;
+        finished = t .finished;
+      }
+
+  roll-entries : (k : Container) (ks : List Container) → m .conts ≡ k ∷ ks → let below = ltb 1 (v .counts .depth) in
+      Used (cond below (entriesBack v l (v .inner .parent)) (l .entries)) (cond below (countBack (v .inner .entries) (v .inner .parent)) (v .inner .entries)) (undo ks (k .parent) (take (k .entries) (m .entries)))
+  unfolding undo
+  roll-entries k [] e =
+      let i : Innermost k = rw (ap topOf e) at innermost-law in
+      let below : ltb 1 (v .counts .depth) ≡ false = ap (ltb 1) (s .depth ∙ ap length e) in
+      let h : k .entries ≤ v .counts .entries = rw (i .is) at (i .entries) in
+      used-by (λ z. cond (below z) (entriesBack v l (v .inner .parent)) (l .entries)) (λ z. cond (below z) (countBack (v .inner .entries) (v .inner .parent)) (i .is z .entries)) (used-cut (used s) (k .entries) h)
+  roll-entries k (p ∷ ks) e =
+      let i : Innermost k = rw (ap topOf e) at innermost-law in
+      let h : k .entries ≤ v .counts .entries = rw (i .is) at (i .entries) in
+      let below : ltb 1 (v .counts .depth) ≡ true = ap (ltb 1) (s .depth ∙ ap length e) ∙ lt-ltb 1 (suc (suc (length ks))) (omega arith) in
+      let par : v .parent ≡ p = s .parent ∙ ap nextOf e in
+      let es : parentEntries v l ≡ take (k .entries - p .entries) (drop (p .entries) (m .entries)) =
+      parent-entries s o ∙ ap (λ z. take (topOf z .entries - nextOf z .entries) (drop (nextOf z .entries) (m .entries))) e in
+      let rise : Rising (k ∷ (p ∷ ks)) (length (m .bytes)) (length (m .names)) (length (joined (m .names))) (length (m .entries)) = rw e at (o .rising) in
+      let own : ParentPlaced m (k ∷ (p ∷ ks)) = rw e at (o .parent) in
+      let back = back-for v l (v .inner .parent) ∙ (λ z. backFor (l .entries) (i .is z .parent) (par z .entries) (es z)) in
+      used-by (λ z. cond (below z) (back z) (l .entries)) (λ z. cond (below z) (countBack (i .is z .entries) (i .is z .parent)) (i .is z .entries))
+      (back-law (used s) (k .parent) (p .object) (k .value - p .value) (k .entries) p ks (rise .4 .3) h (own .1))
+
+  roll-law : (js : List Container) → m .conts ≡ js → anyOpen js ≡ true → Stored (rolledBack v l .counts) (rolledBack v l .storage) (rollAt m js)
+  unfolding rolledBack undo
+  roll-law [] e h = absurd (true≢false (sym h))
+  roll-law (k ∷ ks) e h =
+      let t = s .stored in
+      let i : Innermost k = rw (ap topOf e) at innermost-law in
+      let x = ap (λ z. z .names) (i .is) in
+      let y = ap (λ z. z .text) (i .is) in
+      let a = i .value in
+      let c = count-law s in
+      let d = many-law s in
+      let q = i .names in
+      let b : take (v .inner .value) (l .value) ≡ take (v .inner .value) (m .bytes) = before-mark (v .inner .value) (v .counts .value) (l .value) (m .bytes) (t .bytes) a in
+      let n : length (take (v .inner .value) (l .value)) ≡ v .inner .value = length-take-le (v .inner .value) (l .value) (omega arith) in
+      let bs : take (v .inner .value) (l .value) ≡ take (k .value) (m .bytes) = b ∙ ap (λ z. take (z .value) (m .bytes)) (i .is) in
+      let placed : InnerPlaced m (k ∷ ks) = rw e at (o .inner) in
+      let whole : Kept (v .counts .dictionary) (l .text) (l .ends) (take (k .names) (m .names) ++ drop (k .names) (m .names)) = rw take-append-drop (t .names) in
+      record {
+        value = sym n ∙ ap length bs;
+        bytes = bs;
+        within = omega arith;
+        names = rw (x, y) (kept-back (take (k .names) (m .names)) (drop (k .names) (m .names)) whole (length-take-le (k .names) (m .names) (omega arith)) (sym (placed .1)));
+        sorted = t .sorted;
+        entries = roll-entries k ks e;
+        unique = t .unique;
+        finished = t .finished;
+      }
+
+-- ---- the whole
+
+put-size : (t : Bool) (k : ℕ) (fs : List Entry) (l : List ℕ) → length (cond t (putEntries k fs l) l) ≡ length l
+put-size true k fs l = length-put k fs l
+put-size false k fs l = refl
+
+back-size : (t : Bool) (p : ParentEntry) (v : View) (l : Storage) → length (cond t (entriesBack v l p) (l .entries)) ≡ length (l .entries)
+back-size true New v l = refl
+back-size true (Replaced id o) v l = length-set (l .entries) (2 * (v .parent .entries + seek id (parentEntries v l)) + 1) o
+back-size false p v l = refl
+
+-- a fresh builder represents the machine with nothing in it
+pub represents-fresh : (s : State) → Fresh (s .builder)
+    → Represents s (record { bytes = []; names = []; entries = []; conts = []; sorted = false; unique = s .builder .counts .unique; finished = false })
+unfolding entriesOf stackOf
+represents-fresh s f =
+    record {
+      stored = record {
+        value = f .value;
+        bytes = rw (f .value);
+        within = rw (f .value) (omega arith);
+        names = rw (f .dictionary) (kept-fresh (s .storage .text) (s .storage .ends));
+        sorted = ap (λ d. d .sorted) (f .dictionary);
+        entries = record { all = rw (f .entries); room = rw (f .entries) (omega arith) };
+        unique = refl;
+        finished = f .finished;
+      };
+      stack = rw (f .depth);
+      size = f .containers;
+    }
+
+module _ {s : State} {m : Machine} (r : Represents s m) (o : Orderly m) where
+  abbrev view : View
+  view = viewOf (s .builder)
+
+  seen : Sees view (s .storage) m
+  seen = sees r o
+
+  -- row n's test does not hold
+  clear : (c : Call) → numberOf view (s .storage) c ≡ 0 → (n : ℕ) → testOf n (rows view (s .storage) c) ≡ false
+  clear = none-at view (s .storage)
+
+  append-admits : (nm : Option Name) (x : Scalars) → numberOf view (s .storage) (append nm x) ≡ 0 → Admits view (s .storage) nm × (tooLongFor view (s .storage) (length (scalarBytes (scalarOf x))) ≡ false)
+  append-admits nm x h =
+      let k = append-at view (s .storage) nm x h in
+      (record { named = k 5; full = k 12; free = k 13 }, k 14)
+
+  open-admits : (nm : Option Name) (object : Bool) → numberOf view (s .storage) (openIn nm object) ≡ 0 → Admits view (s .storage) nm × (leb 64 (s .builder .counts .depth) ≡ false)
+  open-admits nm object h =
+      let k = clear (openIn nm object) h in
+      (record { named = k 5; full = k 12; free = k 13 }, k 11)
+
+  some-open : not (isOpen view) ≡ false → anyOpen (m .conts) ≡ true
+  some-open h = sym (open-law seen) ∙ not-false _ h
+
+  -- the innermost is open no more
+  popped : (js : List Container) → m .conts ≡ js → anyOpen js ≡ true → (closeAt m js .conts ≡ stackOf (s .builder .containers) (s .builder .counts .depth - 1)) × (rollAt m js .conts ≡ stackOf (s .builder .containers) (s .builder .counts .depth - 1))
+  popped [] e h = absurd (true≢false (sym h))
+  popped (k ∷ js) e h = let q = sym (stack-pop (s .builder .containers) (s .builder .counts .depth) k js (r .stack ∙ e)) in (q, q)
+
+  -- or has another mark
+  remarked : (u : Bool) (js : List Container) → m .conts ≡ js → objectInner js ≡ true
+      → stackOf (set (s .builder .containers) (s .builder .counts .depth - 1) (step.withUnique (view .inner) u)) (s .builder .counts .depth) ≡ markAt u js
+  remarked u [] e h = absurd (true≢false (sym h))
+  remarked u (k ∷ js) e h =
+      let ks = s .builder .containers in
+      let d = s .builder .counts .depth in
+      let a = represents-depth r ∙ ap length e in
+      let b : length (k ∷ js) ≤ 64 = rw e at (o .depth) in
+      let c = r .size in
+      let g : d - 1 + 1 ≡ d = omega arith in
+      let x = step.withUnique (view .inner) u in
+      let p : stackOf (set ks (d - 1) x) d ≡ x ∷ stackOf ks (d - 1) = rw g at (stack-set ks (d - 1) x (omega arith)) in
+      let q = stack-pop ks d k js (r .stack ∙ e) in
+      let i : view .inner ≡ k = seen .inner ∙ ap topOf e in
+      p ∙ (λ z. step.withUnique (i z) u ∷ q z)
+
+  -- a call that is carried out leaves a state that represents the machine after it
+  pub represents-step : (c : Call) → numberOf (viewOf (s .builder)) (s .storage) c ≡ 0 → Represents (after s c) (apply m c)
+  unfolding after registered appended opened closed rolledBack finished apply
+  represents-step (register n) h =
+      record { stored = register-law seen n (clear (register n) h 12); stack = r .stack; size = r .size }
+  represents-step (append nm x) h =
+      let a = append-admits nm x h in
+      record { stored = append-law seen o nm x (a .0) (a .1); stack = r .stack; size = r .size }
+  represents-step (openIn nm object) h =
+      let a = open-admits nm object h in
+      let ks = s .builder .containers in
+      let d = s .builder .counts .depth in
+      let z = r .size in
+      let x = newContainer view (s .storage) nm object in
+      record {
+        stored = open-stored seen o nm object (a .0);
+        stack = stack-set ks d x (omega (arith, leb-false 64 d (a .1))) ∙ (ap (λ js. x ∷ js) (r .stack) ∙ open-container seen o nm object (a .0));
+        size = length-set ks d x ∙ z;
+      }
+  represents-step close h =
+      let e = some-open (clear close h 3) in
+      record { stored = close-law seen o (m .conts) refl e (clear close h 14); stack = sym (popped (m .conts) refl e .0); size = r .size }
+  represents-step rollBack h =
+      let e = some-open (clear rollBack h 3) in
+      record { stored = roll-law seen o (m .conts) refl e; stack = sym (popped (m .conts) refl e .1); size = r .size }
+  represents-step (uniqueness u) h =
+      let t = r .stored in
+      record {
+        stored = record { value = t .value; bytes = t .bytes; within = t .within; names = t .names; sorted = t .sorted; entries = t .entries; unique = t .unique; finished = t .finished };
+        stack = remarked u (m .conts) refl (sym (in-law seen) ∙ not-false _ (clear (uniqueness u) h 3));
+        size = length-set (s .builder .containers) (s .builder .counts .depth - 1) (step.withUnique (view .inner) u) ∙ r .size;
+      }
+  represents-step (finish out) h = record { stored = finish-law seen out; stack = r .stack; size = r .size }
+
+  -- and the lent lists are as long as before
+  pub represents-lent : (c : Call) → numberOf (viewOf (s .builder)) (s .storage) c ≡ 0 → lentBy (after s c .storage) ≡ lentBy (s .storage)
+  unfolding after registered appended opened closed entriesClosed rolledBack
+  represents-lent (register n) h =
+      let w = names-with seen (some n) (clear (register n) h 12) in
+      λ i. record { value = length (s .storage .value); text = w .text-size i; ends = w .ends-size i; entries = length (s .storage .entries) }
+  represents-lent (append nm x) h =
+      let k = append-admits nm x h in
+      let bs = scalarBytes (scalarOf x) in
+      let f = fits-law seen (length bs) (k .1) in
+      let w = names-with seen nm (k .0 .full) in
+      let a = length-write (s .builder .counts .value) bs (s .storage .value) (omega arith) in
+      let b = entries-size seen o nm (k .0 .named) in
+      λ i. record { value = a i; text = w .text-size i; ends = w .ends-size i; entries = b i }
+  represents-lent (openIn nm object) h =
+      let k = open-admits nm object h in
+      let w = names-with seen nm (k .0 .full) in
+      let b = entries-size seen o nm (k .0 .named) in
+      λ i. record { value = length (s .storage .value); text = w .text-size i; ends = w .ends-size i; entries = b i }
+  represents-lent close h =
+      let f = fits-law seen (length (header view (s .storage))) (clear close h 14) in
+      let w = innermost-law seen o in
+      let a = length-fronted (view .inner .value) (s .builder .counts .value) (header view (s .storage)) (s .storage .value) (w .value) (omega arith) in
+      let b = put-size (view .inner .object) (view .inner .entries) (sort (namesHeld view (s .storage)) (innerEntries view (s .storage))) (s .storage .entries) in
+      λ i. record { value = a i; text = length (s .storage .text); ends = length (s .storage .ends); entries = b i }
+  represents-lent rollBack h =
+      let b = back-size (ltb 1 (s .builder .counts .depth)) (view .inner .parent) view (s .storage) in
+      λ i. record { value = length (s .storage .value); text = length (s .storage .text); ends = length (s .storage .ends); entries = b i }
+  represents-lent (uniqueness u) h = refl
+  represents-lent (finish out) h = refl
+
+-- ---- what a run gives
+
+-- the value bytes
+pub represents-value : {s : State} {m : Machine} → Represents s m → valueBytes s ≡ m .bytes
+unfolding valueBytes
+represents-value r = r .stored .bytes
+
+-- the dictionary
+pub represents-dictionary : {s : State} {m : Machine} → Represents s m → dictionaryOf (viewOf (s .builder)) (s .storage) ≡ dictionary (m .sorted) (m .names)
+unfolding dictionaryOf
+represents-dictionary r i = dictionary (r .stored .sorted i) (r .stored .names .holds .names i)
+
+-- its size
+pub represents-size : {s : State} {m : Machine} → Represents s m → length (dictionaryOf (viewOf (s .builder)) (s .storage)) ≡ sizeOf (length (m .names)) (length (joined (m .names)))
+represents-size {m = m} r = ap length (represents-dictionary r) ∙ dictionary-size (m .sorted) (m .names)
+
+-- what an accepted finish wrote, and nothing behind it
+pub record WritesDictionary (s : State) (m : Machine) (out : List ℕ) : Type 0 where
+  pub fits : sizeOf (length (m .names)) (length (joined (m .names))) ≤ counted (length out)
+  pub long : length (write 0 (dictionaryOf (viewOf (s .builder)) (s .storage)) out) ≡ length out
+  pub front : take (length (dictionaryOf (viewOf (s .builder)) (s .storage))) (write 0 (dictionaryOf (viewOf (s .builder)) (s .storage)) out) ≡ dictionary (m .sorted) (m .names)
+  pub behind : drop (length (dictionaryOf (viewOf (s .builder)) (s .storage))) (write 0 (dictionaryOf (viewOf (s .builder)) (s .storage)) out) ≡ drop (length (dictionaryOf (viewOf (s .builder)) (s .storage))) out
+  pub many : length (m .names) < 256 ^ 4
+  pub text : length (joined (m .names)) < 256 ^ 4
+  pub read : dictionaryNames (dictionary (m .sorted) (m .names)) ≡ m .names
+
+pub represents-finish : {s : State} {m : Machine} → Represents s m → (out : List ℕ) → numberOf (viewOf (s .builder)) (s .storage) (finish out) ≡ 0 → WritesDictionary s m out
+represents-finish {s} {m} r out h =
+    let bs = dictionaryOf (viewOf (s .builder)) (s .storage) in
+    let d = r .stored .names .holds in
+    let ns = m .names in
+    let f : sizeOf (length ns) (length (joined ns)) ≤ counted (length out) = rw (d .count, d .total) (leb-true _ _ (not-false _ (none-at (viewOf (s .builder)) (s .storage) (finish out) h 16))) in
+    let n = represents-size r in
+    let least = size-least (length ns) (length (joined ns)) in
+    let a : length ns < 256 ^ 4 = omega arith in
+    let b : length (joined ns) < 256 ^ 4 = omega arith in
+    record {
+      fits = f;
+      long = length-write 0 bs out (omega arith);
+      front = rw zero-add at (take-write 0 bs out (omega arith)) ∙ represents-dictionary r;
+      behind = rw zero-add at (drop-write 0 bs out (omega arith));
+      many = a;
+      text = b;
+      read = dictionary-read (m .sorted) ns a b;
+    }

@@ -1,0 +1,108 @@
+-- Document 01's "The book for demand 3": the kept record, fed each call's kind and arguments and whether it was refused,
+-- nothing else.
+use mathlib.Core.Bool.{Bool, true, false, cond, _&&_}
+use mathlib.Core.List.{List, [], _∷_, _++_}
+use mathlib.Core.Option.{Option, none, some}
+use Prim.Native.Nat.{_+_, _-_}
+use lib.Dec.{ltb}
+use lib.ListN.{getD, length}
+use Rattle.metadata.specs.Names.{Name, same, place, below}
+use Rattle.semantics.specs.Record.{Call, register, append, openIn, close, rollBack, uniqueness, finish, scalarOf}
+use Rattle.semantics.specs.Tree.{Mark, element, live, replaced, Tree, scalar, nest, Items, empty, item}
+
+-- an open container: "its kind, its own name if any, its items in order, and the names as they were before the open call"
+pub record Level : Type 0 where
+  pub object : Bool
+  pub own : Option Name
+  pub items : Items
+  pub before : List Name
+
+-- "It holds the names, the top value if any, and the open containers", the innermost first
+pub record History : Type 0 where
+  pub names : List Name
+  pub top : Option Tree
+  pub levels : List Level
+
+abbrev pub noHistory : History
+noHistory = record { names = []; top = none; levels = [] }
+
+-- "a name not yet held goes last"
+unfoldable pub withName : List Name → Option Name → List Name
+withName ns none = ns
+withName ns (some n) = cond (ltb (place n ns) (length ns)) ns (ns ++ (n ∷ []))
+
+-- "one live there under the same name becomes replaced and loses that name"
+unfoldable pub unlive : Name → Mark → Mark
+unlive n element = element
+unlive n (live m) = cond (same m n) replaced (live m)
+unlive n replaced = replaced
+
+unfoldable pub replace : Name → Items → Items
+replace n empty = empty
+replace n (item m t is) = item (unlive n m) t (replace n is)
+
+-- "the innermost's last item"
+unfoldable pub snoc : Items → Mark → Tree → Items
+snoc empty m t = item m t empty
+snoc (item n u is) m t = item n u (snoc is m t)
+
+-- "A named item is live"
+unfoldable pub entered : Option Name → Tree → Items → Items
+entered none t is = snoc is element t
+entered (some n) t is = snoc (replace n is) (live n) t
+
+-- "To enter: as the top value if nothing is open, else as the innermost's last item"
+unfoldable pub enter : List Name → Option Tree → List Level → Option Name → Tree → History
+enter ns top [] nm t = record { names = ns; top = some t; levels = [] }
+enter ns top (l ∷ ls) nm t =
+    record { names = ns; top = top; levels = record { object = l .object; own = l .own; items = entered nm t (l .items); before = l .before } ∷ ls }
+
+-- "Close: the innermost is open no more; enter its kind and items, under its own name if it has one"
+unfoldable pub closeLevel : List Name → Option Tree → List Level → History
+closeLevel ns top [] = record { names = ns; top = top; levels = [] }
+closeLevel ns top (l ∷ ls) = enter ns top ls (l .own) (nest (l .object) (l .items))
+
+-- "Roll back: drop the innermost; the names are again those before its open"
+unfoldable pub dropLevel : List Name → Option Tree → List Level → History
+dropLevel ns top [] = record { names = ns; top = top; levels = [] }
+dropLevel ns top (l ∷ ls) = record { names = l .before; top = top; levels = ls }
+
+unfoldable pub accepted : History → Call → History
+accepted h (register n) = record { names = withName (h .names) (some n); top = h .top; levels = h .levels }
+accepted h (append nm v) = enter (withName (h .names) nm) (h .top) (h .levels) nm (scalar (scalarOf v))
+accepted h (openIn nm k) =
+    record { names = withName (h .names) nm; top = h .top; levels = record { object = k; own = nm; items = empty; before = h .names } ∷ h .levels }
+accepted h close = closeLevel (h .names) (h .top) (h .levels)
+accepted h rollBack = dropLevel (h .names) (h .top) (h .levels)
+accepted h (uniqueness u) = h
+accepted h (finish out) = h
+
+-- "Refused, or uniqueness mark: nothing"
+unfoldable pub fed : History → Call → Bool → History
+fed h c refused = cond refused h (accepted h c)
+
+-- "Finish: top value and names are the kept record"
+pub record Kept : Type 0 where
+  pub top : Option Tree
+  pub names : List Name
+
+abbrev pub keptOf : History → Kept
+keptOf h = record { top = h .top; names = h .names }
+
+-- ---- the sorted mark, in document 01's words: "starts off; each added name sets it if it is the only name, else keeps it
+-- only if the name is above the one before"; rolling back "doesn't touch the mark"
+
+unfoldable pub markWith : List Name → Bool → Option Name → Bool
+markWith ns mark none = mark
+markWith ns mark (some n) =
+    cond (ltb (place n ns) (length ns)) mark (cond (ltb 0 (length ns)) (mark && below (getD ns (length ns - 1) []) n) true)
+
+unfoldable pub markAfter : History → Bool → Call → Bool → Bool
+markAfter h mark c true = mark
+markAfter h mark (register n) false = markWith (h .names) mark (some n)
+markAfter h mark (append nm v) false = markWith (h .names) mark nm
+markAfter h mark (openIn nm k) false = markWith (h .names) mark nm
+markAfter h mark close false = mark
+markAfter h mark rollBack false = mark
+markAfter h mark (uniqueness u) false = mark
+markAfter h mark (finish out) false = mark

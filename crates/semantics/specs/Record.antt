@@ -1,0 +1,126 @@
+-- The builder's record over its lent storage, and the calls.
+use mathlib.Core.Bool.{Bool, true, false, cond, _&&_}
+use mathlib.Core.List.{List, _++_}
+use mathlib.Core.Option.{Option}
+use Prim.Native.Nat.{ℕ, zero, suc, _+_, _-_}
+use lib.Dec.{leb, ltb}
+use lib.ListN.{getD, replicate, take}
+use Rattle.value.specs.declared.variant.Variant.{Variant}
+use Rattle.value.specs.declared.variant.VariantBytes.{VariantBytes}
+use Rattle.value.specs.Scalar.{Scalar, stored, storedBytes, storedUuid}
+use Rattle.metadata.specs.Names.{Name, namesOf}
+use Rattle.container.specs.Entries.{entriesOf}
+use Rattle.container.specs.declared.Entry.{Entry}
+use Rattle.semantics.specs.declared.Builder.{Builder}
+use Rattle.semantics.specs.declared.Container.{Container}
+use Rattle.semantics.specs.declared.ParentEntry.the-variants.{New}
+use Rattle.semantics.specs.declared.View.{View}
+
+-- the lent storage: value bytes, name bytes, the name table (each name's end), entry storage (two numbers an entry)
+pub record Storage : Type 0 where
+  pub value : List ℕ
+  pub text : List ℕ
+  pub ends : List ℕ
+  pub entries : List ℕ
+
+-- the four lent slices
+abbrev pub storageOf : List ℕ → List ℕ → List ℕ → List ℕ → Storage
+storageOf value text ends entries = record { value = value; text = text; ends = ends; entries = entries }
+
+pub record State : Type 0 where
+  pub builder : Builder
+  pub storage : Storage
+
+-- ---- the calls, with their arguments as the caller gave them
+
+-- what is appended
+pub data Scalars : Type 0 where
+  fixed : Variant → Scalars
+  bytes : VariantBytes → List ℕ → Scalars
+  uuid : List ℕ → Scalars
+
+-- document 01, "register a name; append a scalar, open a list, open an object (each with or without a field name); close,
+-- roll back the innermost open container; set that object's uniqueness mark; finish", the last with its output
+pub data Call : Type 0 where
+  register : Name → Call
+  append : Option Name → Scalars → Call
+  openIn : Option Name → Bool → Call
+  close : Call
+  rollBack : Call
+  uniqueness : Bool → Call
+  finish : List ℕ → Call
+
+-- "a UUID as 16 bytes by value": a list of another length is no such value, and counts as cut or filled to 16
+abbrev pub sixteen : List ℕ → List ℕ
+sixteen bs = take 16 (bs ++ replicate 16 0)
+
+-- the scalar as stored type and payload
+abbrev pub scalarOf : Scalars → Scalar
+scalarOf (fixed v) = stored v
+scalarOf (bytes k bs) = storedBytes k bs
+scalarOf (uuid bs) = storedUuid (sixteen bs)
+
+-- ---- the open containers
+
+-- what stands where none is open
+abbrev pub noContainer : Container
+noContainer = record { value = 0; names = 0; text = 0; entries = 0; parent = New; object = false; unique = false }
+
+-- the container at depth d, counted from 0
+abbrev pub containerAt : List Container → ℕ → Container
+containerAt ks d = getD ks d noContainer
+
+-- the innermost of d open containers, and its parent
+abbrev pub innermost : List Container → ℕ → Container
+innermost ks d = cond (ltb 0 d) (containerAt ks (d - 1)) noContainer
+
+abbrev pub parentOf : List Container → ℕ → Container
+parentOf ks d = cond (ltb 1 d) (containerAt ks (d - 2)) noContainer
+
+-- a container's starting marks lie at or below those of another
+abbrev pub under : Container → Container → Bool
+under k l = leb (k .value) (l .value) && (leb (k .names) (l .names) && (leb (k .text) (l .text) && leb (k .entries) (l .entries)))
+
+-- no starting mark falls from one of the first d + 1 containers to the next
+unfoldable pub rising : List Container → ℕ → Bool
+rising ks zero = true
+rising ks (suc d) = under (containerAt ks d) (containerAt ks (suc d)) && rising ks d
+
+-- at most 64 are open, and no starting mark falls
+unfoldable pub chained : List Container → ℕ → Bool
+chained ks d = leb d 64 && rising ks (d - 1)
+
+-- ---- what a call sees of the record
+
+abbrev pub viewOf : Builder → View
+viewOf b =
+    let d = b .counts .depth in
+    record { counts = b .counts; inner = innermost (b .containers) d; parent = parentOf (b .containers) d; chain = chained (b .containers) d }
+
+abbrev pub isOpen : View → Bool
+isOpen v = ltb 0 (v .counts .depth)
+
+-- the innermost is an object
+abbrev pub inObject : View → Bool
+inObject v = isOpen v && v .inner .object
+
+-- document 01, "its container's data (which runs to the next container's start, or for the innermost to the used end)"
+abbrev pub innerSize : View → ℕ
+innerSize v = v .counts .value - v .inner .value
+
+abbrev pub parentSize : View → ℕ
+parentSize v = v .inner .value - v .parent .value
+
+abbrev pub innerEntries : View → Storage → List Entry
+innerEntries v l = entriesOf (l .entries) (v .inner .entries) (v .counts .entries - v .inner .entries)
+
+-- the parent's entries run to the child's starting mark
+abbrev pub parentEntries : View → Storage → List Entry
+parentEntries v l = entriesOf (l .entries) (v .parent .entries) (v .inner .entries - v .parent .entries)
+
+abbrev pub namesHeld : View → Storage → List Name
+namesHeld v l = namesOf (v .counts .dictionary) (l .text) (l .ends)
+
+-- document 01, "The uniqueness mark is given to a fresh builder, inherited by children"
+abbrev pub uniqueNow : View → Bool
+uniqueNow v = cond (isOpen v) (v .inner .unique) (v .counts .unique)

@@ -1,0 +1,231 @@
+-- What a call leaves behind: every list whole.
+use mathlib.Core.Bool.{Bool, true, cond}
+use mathlib.Core.List.{List, []}
+use mathlib.Core.Option.{Option, none, some}
+use Prim.Native.Nat.{ℕ, _+_, _-_, _*_}
+use lib.Dec.{eqb, ltb}
+use lib.ListN.{length, set}
+use Rattle.encoding.specs.Slices.{write}
+use Rattle.value.specs.Scalar.{scalarBytes}
+use Rattle.metadata.specs.Names.{Name}
+use Rattle.metadata.specs.Bytes.{dictionary}
+use Rattle.metadata.specs.Calls.{added, truncated}
+use Rattle.metadata.specs.declared.MetadataBuilder.{MetadataBuilder}
+use Rattle.container.specs.Entries.{entryAt, putEntries, seek, setEntry}
+use Rattle.container.specs.Sort.{sort}
+use Rattle.container.specs.Close.{fronted}
+use Rattle.semantics.specs.declared.Container.{Container}
+use Rattle.semantics.specs.declared.Counts.{Counts}
+use Rattle.semantics.specs.declared.ParentEntry.{ParentEntry}
+use Rattle.semantics.specs.declared.ParentEntry.the-variants.{New, Replaced}
+use Rattle.semantics.specs.declared.View.{View}
+use Rattle.semantics.specs.Record.{Storage, storageOf, State, Scalars, Call, register, append, openIn, close, rollBack, uniqueness, finish, scalarOf, viewOf, innerSize, innerEntries, parentEntries, namesHeld, uniqueNow}
+use Rattle.semantics.specs.Table.{idOf, held, liveUnder, newEntry, header, numberOf}
+
+-- ---- a name given: "a name not yet held goes last"
+
+abbrev pub dictionaryWith : View → Storage → Option Name → MetadataBuilder
+dictionaryWith v l none = v .counts .dictionary
+dictionaryWith v l (some n) = cond (held v l n) (v .counts .dictionary) (added (v .counts .dictionary) (l .text) (l .ends) n)
+
+abbrev pub textWith : View → Storage → Option Name → List ℕ
+textWith v l none = l .text
+textWith v l (some n) = cond (held v l n) (l .text) (write (v .counts .dictionary .text) n (l .text))
+
+abbrev pub endsWith : View → Storage → Option Name → List ℕ
+endsWith v l none = l .ends
+endsWith v l (some n) = cond (held v l n) (l .ends) (set (l .ends) (v .counts .dictionary .names) (v .counts .dictionary .text + length n))
+
+-- ---- the next value's entry in the innermost container
+
+-- left free by document 01: the id in a list's entry. It is 0.
+abbrev pub idFor : View → Storage → Option Name → ℕ
+idFor v l none = 0
+idFor v l (some n) = idOf v l n
+
+-- where the entry of a live name stands
+abbrev pub placeFor : View → Storage → Option Name → ℕ
+placeFor v l nm = v .inner .entries + seek (idFor v l nm) (innerEntries v l)
+
+-- "A second field of a live name, where uniqueness is off, moves that name's offset"; any other is a new entry
+abbrev pub entriesWith : View → Storage → Option Name → List ℕ
+entriesWith v l nm =
+    cond (newEntry v l nm) (setEntry (l .entries) (v .counts .entries) (record { id = idFor v l nm; offset = innerSize v }))
+    (cond (liveUnder v l nm) (set (l .entries) (2 * placeFor v l nm + 1) (innerSize v)) (l .entries))
+
+abbrev pub countWith : View → Storage → Option Name → ℕ
+countWith v l nm = cond (newEntry v l nm) (v .counts .entries + 1) (v .counts .entries)
+
+-- "either "new field" or "replaced" with id and former offset"; the top container's, which is left free, is new
+abbrev pub parentWith : View → Storage → Option Name → ParentEntry
+parentWith v l nm = cond (liveUnder v l nm) (Replaced (idFor v l nm) (entryAt (l .entries) (placeFor v l nm) .offset)) New
+
+-- ---- each call, carried out
+
+-- what it leaves of the counts and of the storage
+pub record Left : Type 0 where
+  pub counts : Counts
+  pub storage : Storage
+
+abbrev pub withCounts : Counts → ℕ → ℕ → ℕ → MetadataBuilder → Counts
+withCounts c value entries depth dictionary =
+    record { value = value; entries = entries; depth = depth; dictionary = dictionary; unique = c .unique; finished = c .finished }
+
+unfoldable pub registered : View → Storage → Name → Left
+registered v l n =
+    let c = v .counts in
+    record {
+      counts = withCounts c (c .value) (c .entries) (c .depth) (dictionaryWith v l (some n));
+      storage = storageOf (l .value) (textWith v l (some n)) (endsWith v l (some n)) (l .entries);
+    }
+
+unfoldable pub appended : View → Storage → Option Name → Scalars → Left
+appended v l nm x =
+    let c = v .counts in
+    let bs = scalarBytes (scalarOf x) in
+    record {
+      counts = withCounts c (c .value + length bs) (countWith v l nm) (c .depth) (dictionaryWith v l nm);
+      storage = storageOf (write (c .value) bs (l .value)) (textWith v l nm) (endsWith v l nm) (entriesWith v l nm);
+    }
+
+unfoldable pub opened : View → Storage → Option Name → Left
+opened v l nm =
+    let c = v .counts in
+    record {
+      counts = withCounts c (c .value) (countWith v l nm) (c .depth + 1) (dictionaryWith v l nm);
+      storage = storageOf (l .value) (textWith v l nm) (endsWith v l nm) (entriesWith v l nm);
+    }
+
+-- "Its starting marks are the used counts at its opening: value bytes; names and name bytes before its own name; entries
+-- after its own entry"
+unfoldable pub newContainer : View → Storage → Option Name → Bool → Container
+newContainer v l nm object =
+    let c = v .counts in
+    record {
+      value = c .value;
+      names = c .dictionary .names;
+      text = c .dictionary .text;
+      entries = countWith v l nm;
+      parent = parentWith v l nm;
+      object = object;
+      unique = uniqueNow v;
+    }
+
+-- left free by document 01: the freed entries after a close. Those of an object are in sorted order, those of a list as
+-- they were.
+unfoldable pub entriesClosed : View → Storage → List ℕ
+entriesClosed v l = cond (v .inner .object) (putEntries (v .inner .entries) (sort (namesHeld v l) (innerEntries v l)) (l .entries)) (l .entries)
+
+unfoldable pub closed : View → Storage → Left
+closed v l =
+    let c = v .counts in
+    let k = v .inner in
+    record {
+      counts = withCounts c (c .value + length (header v l)) (k .entries) (c .depth - 1) (c .dictionary);
+      storage = storageOf (fronted (k .value) (c .value) (header v l) (l .value)) (l .text) (l .ends) (entriesClosed v l);
+    }
+
+-- "Rolling back such a child brings the former offset again; rolling back a new one .. takes its parent's last entry away"
+abbrev pub entriesBack : View → Storage → ParentEntry → List ℕ
+entriesBack v l New = l .entries
+entriesBack v l (Replaced id offset) = set (l .entries) (2 * (v .parent .entries + seek id (parentEntries v l)) + 1) offset
+
+abbrev pub countBack : ℕ → ParentEntry → ℕ
+countBack n New = n - 1
+countBack n (Replaced id offset) = n
+
+-- left free by document 01: the freed entries, names and name bytes after a roll back. They are as they were.
+unfoldable pub rolledBack : View → Storage → Left
+rolledBack v l =
+    let c = v .counts in
+    let k = v .inner in
+    let below = ltb 1 (c .depth) in
+    record {
+      counts = withCounts c (k .value) (cond below (countBack (k .entries) (k .parent)) (k .entries)) (c .depth - 1) (truncated (c .dictionary) (k .names) (k .text));
+      storage = storageOf (l .value) (l .text) (l .ends) (cond below (entriesBack v l (k .parent)) (l .entries));
+    }
+
+-- the innermost with another uniqueness mark
+unfoldable pub withUnique : Container → Bool → Container
+withUnique k u = record { value = k .value; names = k .names; text = k .text; entries = k .entries; parent = k .parent; object = k .object; unique = u }
+
+unfoldable pub finished : Counts → Counts
+finished c = record { value = c .value; entries = c .entries; depth = c .depth; dictionary = c .dictionary; unique = c .unique; finished = true }
+
+-- "finish writes only the dictionary"
+unfoldable pub dictionaryOf : View → Storage → List ℕ
+dictionaryOf v l = dictionary (v .counts .dictionary .sorted) (namesHeld v l)
+
+abbrev pub carriedOut : View → Storage → Call → Left
+carriedOut v l (register n) = registered v l n
+carriedOut v l (append nm x) = appended v l nm x
+carriedOut v l (openIn nm k) = opened v l nm
+carriedOut v l close = closed v l
+carriedOut v l rollBack = rolledBack v l
+carriedOut v l (uniqueness u) = record { counts = v .counts; storage = l }
+carriedOut v l (finish out) = record { counts = finished (v .counts); storage = l }
+
+-- left free by document 01: the containers beyond the depth. They are as they were.
+abbrev pub containersAfter : View → Storage → Call → List Container → List Container
+containersAfter v l (register n) ks = ks
+containersAfter v l (append nm x) ks = ks
+containersAfter v l (openIn nm object) ks = set ks (v .counts .depth) (newContainer v l nm object)
+containersAfter v l close ks = ks
+containersAfter v l rollBack ks = ks
+containersAfter v l (uniqueness u) ks = set ks (v .counts .depth - 1) (withUnique (v .inner) u)
+containersAfter v l (finish out) ks = ks
+
+abbrev pub outputOf : View → Storage → Call → List ℕ
+outputOf v l (register n) = []
+outputOf v l (append nm x) = []
+outputOf v l (openIn nm k) = []
+outputOf v l close = []
+outputOf v l rollBack = []
+outputOf v l (uniqueness u) = []
+outputOf v l (finish out) = write 0 (dictionaryOf v l) out
+
+abbrev pub writtenBy : View → Storage → Call → ℕ
+writtenBy v l (register n) = 0
+writtenBy v l (append nm x) = 0
+writtenBy v l (openIn nm k) = 0
+writtenBy v l close = 0
+writtenBy v l rollBack = 0
+writtenBy v l (uniqueness u) = 0
+writtenBy v l (finish out) = length (dictionaryOf v l)
+
+-- the output as it was lent
+abbrev pub lentOutput : Call → List ℕ
+lentOutput (register n) = []
+lentOutput (append nm x) = []
+lentOutput (openIn nm k) = []
+lentOutput close = []
+lentOutput rollBack = []
+lentOutput (uniqueness u) = []
+lentOutput (finish out) = out
+
+-- ---- the step
+
+-- a call's number, 0 where it is carried out; the state then; of finish its output then, and how many bytes it wrote
+pub record Outcome : Type 0 where
+  pub number : ℕ
+  pub state : State
+  pub output : List ℕ
+  pub written : ℕ
+
+-- the state with what a call that is carried out leaves
+unfoldable pub after : State → Call → State
+after s c =
+    let v = viewOf (s .builder) in
+    let l = s .storage in
+    record {
+      builder = record { containers = containersAfter v l c (s .builder .containers); counts = carriedOut v l c .counts };
+      storage = carriedOut v l c .storage;
+    }
+
+-- "after a number the builder and all the storage are as before"
+unfoldable pub step : State → Call → Outcome
+step s c =
+    let v = viewOf (s .builder) in
+    let n = numberOf v (s .storage) c in
+    cond (eqb n 0) (record { number = 0; state = after s c; output = outputOf v (s .storage) c; written = writtenBy v (s .storage) c })
+    (record { number = n; state = s; output = lentOutput c; written = 0 })

@@ -1,0 +1,130 @@
+-- Document 01's table of refused calls: for each call its rows, in the table's order, which is the order of checking.
+use mathlib.Core.Bool.{Bool, false, cond, not, _&&_}
+use mathlib.Core.List.{List, [], _∷_, _++_}
+use mathlib.Core.Option.{Option, none, some}
+use Prim.Native.Nat.{ℕ, _+_}
+use lib.Dec.{eqb, leb, ltb}
+use lib.ListN.{length}
+use Rattle.encoding.specs.Rows.{Row, row, first}
+use Rattle.encoding.specs.Slices.{counted, fits}
+use Rattle.encoding.specs.Utf8.{utf8}
+use Rattle.value.specs.Decimal.{outOfRange}
+use Rattle.value.specs.Scalar.{illFormed, scalarBytes}
+use Rattle.metadata.specs.Names.{Name, place}
+use Rattle.metadata.specs.Bytes.{sizeOf}
+use Rattle.metadata.specs.Calls.{hasRoom}
+use Rattle.container.specs.Entries.{idsOf, offsetsOf, roomFor, seek}
+use Rattle.container.specs.Layout.{listHeader, objectHeader}
+use Rattle.container.specs.Sort.{sort}
+use Rattle.semantics.specs.declared.View.{View}
+use Rattle.semantics.specs.Record.{Storage, Scalars, fixed, bytes, uuid, Call, register, append, openIn, close, rollBack, uniqueness, finish, scalarOf, isOpen, inObject, innerSize, innerEntries, namesHeld, uniqueNow}
+use Rattle.semantics.specs.Damage.{misreadBy, misread, damaged}
+
+-- ---- the rows' tests
+
+-- 5, "named where no object is innermost (top level too), or unnamed in an object"
+abbrev pub misnamed : Option Name → View → Bool
+misnamed none v = inObject v
+misnamed (some n) v = not (inObject v)
+
+-- 6, "no container is open, and value bytes are used"
+abbrev pub secondTop : View → Bool
+secondTop v = not (isOpen v) && ltb 0 (v .counts .value)
+
+-- a scalar's own: 7, "decimal or time outside its range", and 8, "text not UTF-8, or an explicit short text over 63 bytes"
+abbrev pub scalarRows : Scalars → List Row
+scalarRows (fixed x) = row 7 (outOfRange x) ∷ []
+scalarRows (bytes k bs) = row 8 (illFormed k bs) ∷ []
+scalarRows (uuid bs) = []
+
+-- a name's id: the first place that holds it, or how many names are held
+abbrev pub idOf : View → Storage → Name → ℕ
+idOf v l n = place n (namesHeld v l)
+
+abbrev pub held : View → Storage → Name → Bool
+held v l n = ltb (idOf v l n) (v .counts .dictionary .names)
+
+-- "the name is live in this object"
+abbrev pub live : View → Storage → Name → Bool
+live v l n = held v l n && ltb (seek (idOf v l n) (innerEntries v l)) (length (innerEntries v l))
+
+abbrev pub liveUnder : View → Storage → Option Name → Bool
+liveUnder v l none = false
+liveUnder v l (some n) = isOpen v && live v l n
+
+-- 9, 10 and 12, of a name that is given
+abbrev pub badName : Option Name → Bool
+badName none = false
+badName (some n) = not (utf8 n)
+
+abbrev pub taken : View → Storage → Option Name → Bool
+taken v l nm = uniqueNow v && liveUnder v l nm
+
+-- "a new name, and the name table or name bytes are full for it"
+abbrev pub namesFull : View → Storage → Option Name → Bool
+namesFull v l none = false
+namesFull v l (some n) = not (held v l n) && not (hasRoom (v .counts .dictionary) (l .text) (l .ends) n)
+
+-- 13, "a new entry in an open container, and no entry is free"
+abbrev pub newEntry : View → Storage → Option Name → Bool
+newEntry v l nm = isOpen v && not (liveUnder v l nm)
+
+abbrev pub entriesFull : View → Storage → Option Name → Bool
+entriesFull v l nm = newEntry v l nm && leb (roomFor (length (l .entries))) (v .counts .entries)
+
+-- 14, "the scalar or header doesn't fit after the used bytes"
+abbrev pub tooLong : View → Storage → ℕ → Bool
+tooLong v l size = not (fits (v .counts .value) size (length (l .value)))
+
+-- the innermost's header
+unfoldable pub header : View → Storage → List ℕ
+header v l =
+    let es = innerEntries v l in
+    let sorted = sort (namesHeld v l) es in
+    cond (v .inner .object) (objectHeader (idsOf sorted) (offsetsOf sorted) (innerSize v)) (listHeader (offsetsOf es) (innerSize v))
+
+-- ---- the table
+
+-- append's: before the scalar's own rows, behind them, and all; the scalar gives its own and the bytes that it takes
+abbrev pub frontRows : View → Storage → Option Name → List Row
+frontRows v l nm =
+    row 1 (damaged v l (misreadBy v l nm)) ∷ (row 2 (v .counts .finished) ∷ (row 5 (misnamed nm v) ∷ (row 6 (secondTop v) ∷ [])))
+
+abbrev pub backRows : View → Storage → Option Name → ℕ → List Row
+backRows v l nm size =
+    row 9 (badName nm)
+    ∷ (row 10 (taken v l nm) ∷ (row 12 (namesFull v l nm) ∷ (row 13 (entriesFull v l nm) ∷ (row 14 (tooLong v l size) ∷ []))))
+
+abbrev pub appendRows : View → Storage → Option Name → List Row → ℕ → List Row
+appendRows v l nm own size = frontRows v l nm ++ (own ++ backRows v l nm size)
+
+abbrev pub rows : View → Storage → Call → List Row
+rows v l (register n) =
+    row 1 (damaged v l (misread v l (register n)))
+    ∷ (row 2 (v .counts .finished) ∷ (row 4 (isOpen v) ∷ (row 9 (badName (some n)) ∷ (row 12 (namesFull v l (some n)) ∷ []))))
+rows v l (append nm x) = appendRows v l nm (scalarRows x) (length (scalarBytes (scalarOf x)))
+rows v l (openIn nm k) =
+    row 1 (damaged v l (misread v l (openIn nm k)))
+    ∷ (row 2 (v .counts .finished)
+    ∷ (row 5 (misnamed nm v)
+    ∷ (row 6 (secondTop v)
+    ∷ (row 9 (badName nm)
+    ∷ (row 10 (taken v l nm)
+    ∷ (row 11 (leb 64 (v .counts .depth)) ∷ (row 12 (namesFull v l nm) ∷ (row 13 (entriesFull v l nm) ∷ []))))))))
+rows v l close =
+    row 1 (damaged v l (misread v l close))
+    ∷ (row 2 (v .counts .finished) ∷ (row 3 (not (isOpen v)) ∷ (row 14 (tooLong v l (length (header v l))) ∷ [])))
+rows v l rollBack =
+    row 1 (damaged v l (misread v l rollBack)) ∷ (row 2 (v .counts .finished) ∷ (row 3 (not (isOpen v)) ∷ []))
+rows v l (uniqueness u) =
+    row 1 (damaged v l (misread v l (uniqueness u))) ∷ (row 2 (v .counts .finished) ∷ (row 3 (not (inObject v)) ∷ []))
+rows v l (finish out) =
+    row 1 (damaged v l (misread v l (finish out)))
+    ∷ (row 2 (v .counts .finished)
+    ∷ (row 4 (isOpen v)
+    ∷ (row 15 (eqb (v .counts .value) 0)
+    ∷ (row 16 (not (leb (sizeOf (v .counts .dictionary .names) (v .counts .dictionary .text)) (counted (length out)))) ∷ []))))
+
+-- a call's number
+unfoldable pub numberOf : View → Storage → Call → ℕ
+numberOf v l c = first (rows v l c)

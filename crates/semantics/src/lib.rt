@@ -1,0 +1,62 @@
+// Licensed to the Apache Software Foundation (ASF) under one
+// or more contributor license agreements.  See the NOTICE file
+// distributed with this work for additional information
+// regarding copyright ownership.  The ASF licenses this file
+// to you under the Apache License, Version 2.0 (the
+// "License"); you may not use this file except in compliance
+// with the License.  You may obtain a copy of the License at
+//
+//   http://www.apache.org/licenses/LICENSE-2.0
+//
+// Unless required by applicable law or agreed to in writing,
+// software distributed under the License is distributed on an
+// "AS IS" BASIS, WITHOUT WARRANTIES OR CONDITIONS OF ANY
+// KIND, either express or implied.  See the License for the
+// specific language governing permissions and limitations
+// under the License.
+
+// The builder's record. Its calls are in the crate `builder`; what they mean is in specs/, and the theorems in proofs/.
+// Derived from the records `VariantBuilder`, `ParentState`, `ListState` and `ObjectState` of parquet-variant 60.1.0, src/builder.rs,
+// src/builder/list.rs and src/builder/object.rs (see NOTICE). Changed: written in Rattle, one record with 64 containers.
+use metadata::MetadataBuilder;
+
+// How a container's entry in its parent came about, read when the container is rolled back.
+pub enum ParentEntry {
+    New,
+    Replaced { id: usize, offset: usize },
+}
+
+// An open container. The first four are its starting marks: the used counts at its opening.
+pub struct Container {
+    pub value: usize,
+    pub names: usize,
+    pub text: usize,
+    pub entries: usize,
+    pub parent: ParentEntry,
+    pub object: bool,
+    pub unique: bool,
+}
+
+// The used counts, the open containers' number, the dictionary's record, and the marks.
+pub struct Counts {
+    pub value: usize,
+    pub entries: usize,
+    pub depth: usize,
+    pub dictionary: MetadataBuilder,
+    pub unique: bool,
+    pub finished: bool,
+}
+
+pub struct Builder {
+    pub containers: [Container; 64],
+    pub counts: Counts,
+}
+
+// What a call sees of the record: the counts, the innermost open container and its parent, and whether at most 64 are open
+// and no starting mark falls from one of them to the next.
+pub struct View {
+    pub counts: Counts,
+    pub inner: Container,
+    pub parent: Container,
+    pub chain: bool,
+}

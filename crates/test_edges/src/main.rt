@@ -1,0 +1,144 @@
+// Document 01's named edges, one line a case: its name; the answers of its first calls and of its last, each 0 or the number of the
+// first call refused; names and value bytes then used; the first 16 of these bytes; where the last calls finish, the
+// dictionary. Calls are written as bytes: see `call_of`. Other edges are data of the program `test_replay`.
+// The file `stdout` was not made by this program but by a model of document 01 written apart from this code.
+use builder::new;
+use builder_mut::Call;
+use builder_mut::LendCalled;
+use builder_mut::lend;
+use value::variant::Variant;
+use value::variant::VariantBytes;
+ghost use Prim.Native.Nat.{_≤_};
+
+fn main() {
+    lists();
+    texts();
+    depths();
+}
+
+fn lists() {
+    let mut n255 = [b'n'; 256];
+    n255[0] = b'[';
+    case(b"list of 255 nulls", &n255, b"].");
+    let mut n256 = [b'n'; 257];
+    n256[0] = b'[';
+    case(b"list of 256 nulls", &n256, b"].");
+}
+
+fn texts() {
+    case(b"text of 63 bytes", b"", b"t.");
+    case(b"text of 64 bytes", b"", b"T.");
+}
+
+fn depths() {
+    let opened = [b'['; 64];
+    let mut closed = [b']'; 65];
+    closed[64] = b'.';
+    case(b"depth 64", &opened, &closed);
+    case(b"depth 65", &opened, b"[");
+}
+
+fn case(label: &[u8], before: &[u8], last: &[u8]) {
+    let mut value = [0u8; 1024];
+    let mut entries = [0usize; 512];
+    let mut out = [0u8; 3];
+    let fresh = LendCalled {
+        number: 0,
+        written: 0,
+        builder: new(false),
+    };
+    let r = run(fresh, &mut value, &mut entries, &mut out, before);
+    let s = run(r, &mut value, &mut entries, &mut out, last);
+    line(label, r.number, s, &value, &out);
+}
+
+fn line(label: &[u8], before: u8, s: LendCalled, value: &[u8], out: &[u8]) {
+    print::text(label);
+    print::text(b": ");
+    print::number(before as usize);
+    print::text(b" ");
+    print::number(s.number as usize);
+    print::text(b", ");
+    print::number(s.builder.counts.dictionary.names);
+    print::text(b" names, ");
+    let used = s.builder.counts.value;
+    print::number(used);
+    print::text(b" bytes");
+    if 0 < used {
+        print::text(b", ");
+        print::front(value, used);
+    }
+    if 0 < s.written {
+        print::text(b", dictionary ");
+        print::hex(out, s.written);
+    }
+    print::text(b"\n");
+}
+
+// The calls in order, up to the first one refused.
+fn run(
+    start: LendCalled,
+    value: &mut [u8],
+    entries: &mut [usize],
+    out: &mut [u8],
+    calls: &[u8],
+) -> LendCalled {
+    let mut r = start;
+    let mut i = 0;
+    while i < calls.len() {
+        let c = calls[i];
+        i += 1;
+        r = next(r, value, entries, out, c);
+    }
+    r
+}
+
+fn next(
+    r: LendCalled,
+    value: &mut [u8],
+    entries: &mut [usize],
+    out: &mut [u8],
+    c: u8,
+) -> LendCalled {
+    if r.number != 0 {
+        return r;
+    }
+    let mut text = [0u8; 0];
+    let mut ends = [0usize; 0];
+    let bytes = [b'a'; 64];
+    let n = length(c);
+    lend(
+        r.builder,
+        call_of(c),
+        value,
+        &mut text,
+        &mut ends,
+        entries,
+        false,
+        b"",
+        &bytes[0..n],
+        [0; 16],
+        out,
+    )
+}
+
+// A list opened, a null, a close, a finish; any other byte is a plain text.
+fn call_of(c: u8) -> Call {
+    match c {
+        b'[' => Call::NewList,
+        b'n' => Call::AppendValue(Variant::Null),
+        b']' => Call::Close,
+        b'.' => Call::Finish,
+        _ => Call::AppendBytes(VariantBytes::Text),
+    }
+}
+
+// How long a text is.
+fn length(c: u8) -> usize
+    ensures { λ r. ⌜ r ≤ 64 ⌝ }
+{
+    if c == b't' {
+        return 63;
+    }
+    64
+}

@@ -1,0 +1,121 @@
+// The record or the storage altered, as a poke says. A place that is not there is passed over.
+use crate::input::Header;
+use crate::parse::word;
+use container::Entry;
+use container::put_entry;
+use encoding::slices::write_slice;
+use semantics::Builder;
+use semantics::Container;
+use semantics::Counts;
+use semantics::ParentEntry;
+
+// A poke's number at `from`.
+fn number(operand: &[u8], from: u8) -> usize {
+    word(operand, from) as usize
+}
+
+pub fn altered(b: Builder, h: Header, operand: &[u8]) -> Builder {
+    let which = h.argument;
+    let n = number(operand, 0);
+    let c = b.counts;
+    let cs = b.containers;
+    match which {
+        0..=7 => Builder {
+            containers: cs,
+            counts: counts(c, which, n),
+        },
+        8..=15 => contained(b, which, h.size, n, number(operand, 8)),
+        _ => b,
+    }
+}
+
+fn counts(before: Counts, which: u8, n: usize) -> Counts {
+    let mut c = before;
+    let mut m = c.dictionary;
+    match which {
+        0 => c.value = n,
+        1 => m.names = n,
+        2 => m.text = n,
+        3 => c.entries = n,
+        4 => c.depth = n,
+        5 => c.unique = n == 1,
+        6 => m.sorted = n == 1,
+        _ => c.finished = n == 1,
+    }
+    c.dictionary = m;
+    c
+}
+
+fn contained(b: Builder, which: u8, i: usize, n: usize, m: usize) -> Builder {
+    let c = b.counts;
+    let mut cs = b.containers;
+    if i < 64 {
+        let k = cs[i];
+        cs[i] = container(k, which, n, m);
+    }
+    Builder {
+        containers: cs,
+        counts: c,
+    }
+}
+
+fn container(before: Container, which: u8, n: usize, m: usize) -> Container {
+    let mut k = before;
+    match which {
+        8 => k.value = n,
+        9 => k.names = n,
+        10 => k.text = n,
+        11 => k.entries = n,
+        12 => k.object = n == 1,
+        13 => k.unique = n == 1,
+        14 => k = parent(k, ParentEntry::New),
+        _ => k = parent(k, ParentEntry::Replaced { id: n, offset: m }),
+    }
+    k
+}
+
+fn parent(k: Container, parent: ParentEntry) -> Container {
+    Container {
+        value: k.value,
+        names: k.names,
+        text: k.text,
+        entries: k.entries,
+        parent,
+        object: k.object,
+        unique: k.unique,
+    }
+}
+
+pub fn overwrite(
+    value: &mut [u8],
+    text: &mut [u8],
+    ends: &mut [usize],
+    entries: &mut [usize],
+    h: Header,
+    operand: &[u8],
+) {
+    let which = h.argument;
+    let at = h.size;
+    let n = number(operand, 0);
+    match which {
+        16 => name_end(ends, at, n),
+        17 => entry(entries, at, n, number(operand, 8)),
+        18 => bytes(value, at, operand),
+        19 => bytes(text, at, operand),
+        _ => {}
+    }
+}
+
+fn name_end(ends: &mut [usize], at: usize, n: usize) {
+    if at < ends.len() {
+        ends[at] = n;
+    }
+}
+
+fn entry(entries: &mut [usize], at: usize, id: usize, offset: usize) {
+    put_entry(entries, at, Entry { id, offset });
+}
+
+fn bytes(into: &mut [u8], at: usize, operand: &[u8]) {
+    write_slice(into, at, operand);
+}

@@ -9,7 +9,7 @@ use lib.ListN.{length}
 use borrow.Author.Tests.{ltb-true, ltb-false, le-leb, not-false}
 use Rattle.encoding.specs.Rows.{first}
 use Rattle.encoding.specs.Slices.{counted, fits}
-use Rattle.metadata.specs.Names.{exceeds}
+use Rattle.metadata.specs.Names.{exceeds, fieldNames, textSize}
 use Rattle.container.specs.declared.Closed.{Closed}
 use Rattle.container.specs.declared.Closed.the-variants.{Done, Damaged, NoRoom}
 use Rattle.container.specs.Layout.{largest}
@@ -76,8 +76,8 @@ undamaged-inside v l x e =
     let t = neither (exceeds (v .counts .dictionary) (length (l .text)) (length (l .ends))) _ (o .1) .1 in
     let g = both (v .chain) (grown v) (not-false _ (neither (unchained v) x (a .1) .0)) .1 in
     let k = both (leb (v .inner .value) (v .counts .value)) _ g in
-    let n = both (leb (v .inner .names) (v .counts .dictionary .names)) _ (k .1) .1 in
-    let m = both (leb (v .inner .text) (v .counts .dictionary .text)) (leb (v .inner .entries) (v .counts .entries)) n .1 in
+    let n = both (leb (v .inner .names) (fieldNames (v .counts .dictionary))) _ (k .1) .1 in
+    let m = both (leb (v .inner .text) (textSize (v .counts .dictionary))) (leb (v .inner .entries) (v .counts .entries)) n .1 in
     rw (k .0, le-leb (v .counts .value) (counted (length (l .value))) (ltb-false _ _ (o .0)), m, le-leb (v .counts .entries) (roomFor (length (l .entries))) (ltb-false _ _ t))
 
 -- number 1's part that every call asks does not hold either

@@ -11,7 +11,7 @@ use Rattle.encoding.specs.Rows.{first}
 use Rattle.encoding.specs.Slices.{counted}
 use Rattle.metadata.specs.declared.Finished.{Finished}
 use Rattle.metadata.specs.declared.Finished.the-variants.{Damaged, NoRoom, Written}
-use Rattle.metadata.specs.Names.{intact}
+use Rattle.metadata.specs.Names.{intact, fieldNames, isSorted, textSize}
 use Rattle.metadata.specs.Bytes.{sizeOf}
 use Rattle.metadata.specs.Calls.{FinishesDictionary, finishNumber, finishes}
 use Rattle.metadata.proofs.BytesLaws.{dictionary-size, length-names, length-joined-names}
@@ -71,7 +71,7 @@ unfolding first numberOf finishes fallenEnds
 finishable {v} {l} {out} e q =
     let c = none-holds (brokenOf v l) (damaged v l (fallenEnds v l)) (v .counts .finished) (isOpen v) (eqb (v .counts .value) 0) (sym e ∙ q) in
     let d = damaged-none v l (fallenEnds v l) (c .0) in
-    record { number = rw (d, c .1, c .2, c .3, ends-read v l (c .0)) (go (leb (sizeOf (v .counts .dictionary .names) (v .counts .dictionary .text)) (counted (length out)))) }
+    record { number = rw (d, c .1, c .2, c .3, ends-read v l (c .0)) (go (leb (sizeOf (fieldNames (v .counts .dictionary)) (textSize (v .counts .dictionary))) (counted (length out)))) }
   where
     go : (t : Bool) → _≡_ {A = ℕ} (cond (fallenEnds v l) 1 (cond (not t) 16 0)) (cond (fallenEnds v l) 1 (cond t 0 16))
     go true = refl
@@ -80,11 +80,11 @@ finishable {v} {l} {out} e q =
 -- ---- the name ends and row 16: by the dictionary's answer
 
 -- the dictionary's size
-dictionary-bytes : (v : View) (l : Storage) → intact (v .counts .dictionary) (l .text) (l .ends) ≡ true → length (dictionaryOf v l) ≡ sizeOf (v .counts .dictionary .names) (v .counts .dictionary .text)
+dictionary-bytes : (v : View) (l : Storage) → intact (v .counts .dictionary) (l .text) (l .ends) ≡ true → length (dictionaryOf v l) ≡ sizeOf (fieldNames (v .counts .dictionary)) (textSize (v .counts .dictionary))
 unfolding dictionaryOf
 dictionary-bytes v l i =
     let m = v .counts .dictionary in
-    dictionary-size (m .sorted) (namesHeld v l) ∙ (rw (length-names m (l .text) (l .ends) i, length-joined-names m (l .text) (l .ends) i))
+    dictionary-size (isSorted m) (namesHeld v l) ∙ (rw (length-names m (l .text) (l .ends) i, length-joined-names m (l .text) (l .ends) i))
 
 -- one that is written has intact name ends
 written-intact : (v : View) (l : Storage) (out : List ℕ) → finishes (v .counts .dictionary) (l .text) (l .ends) out ≡ 0 → intact (v .counts .dictionary) (l .text) (l .ends) ≡ true
@@ -101,7 +101,7 @@ module _ {v : View} {l : Storage} {out : List ℕ} {r : Finished} {left : List �
   unfolding finished dictionaryOf
   ends-written {size} e =
       let z = same-number (ap finishNumber e) in
-      let s : size ≡ sizeOf (v .counts .dictionary .names) (v .counts .dictionary .text) = rw (z, e) at (f .size) in
+      let s : size ≡ sizeOf (fieldNames (v .counts .dictionary)) (textSize (v .counts .dictionary)) = rw (z, e) at (f .size) in
       record { number = rw (k .number, z); counts = rw (k .number, z); written = rw (k .number, z) (s ∙ sym (dictionary-bytes v l (written-intact v l out z))); output = rw (k .number, z) (rw z at (f .bytes)) }
 
   -- refused, with the dictionary's number

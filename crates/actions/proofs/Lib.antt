@@ -4,4 +4,5 @@ pub mod AppendLaws
 pub mod CloseLaws
 pub mod UndoLaws
 pub mod OpenLaws
+pub mod UniqueLaws
 pub mod FinishLaws

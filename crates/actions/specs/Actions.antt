@@ -9,7 +9,7 @@ use lib.Dec.{eqb, ltb}
 use lib.ListN.{length, set}
 use Rattle.encoding.specs.Slices.{write}
 use Rattle.metadata.specs.declared.MetadataBuilder.{MetadataBuilder}
-use Rattle.metadata.specs.Names.{Name}
+use Rattle.metadata.specs.Names.{Name, fieldNames, textSize}
 use Rattle.metadata.specs.Calls.{added, hasRoom}
 use Rattle.container.specs.declared.Closed.{Closed}
 use Rattle.container.specs.declared.Frame.{Frame}
@@ -20,11 +20,12 @@ use Rattle.semantics.specs.declared.Container.{Container}
 use Rattle.semantics.specs.declared.ParentEntry.{ParentEntry}
 use Rattle.semantics.specs.declared.ParentEntry.the-variants.{New, Replaced}
 use Rattle.semantics.specs.declared.View.{View}
-use Rattle.semantics.specs.Record.{Storage, Call, openIn, finish, uniqueNow}
+use Rattle.semantics.specs.Record.{Storage, Call, openIn, uniqueness, finish, uniqueNow}
 use Rattle.semantics.specs.Table.{header, numberOf}
-use Rattle.semantics.specs.Step.{carriedOut, countWith, dictionaryOf, dictionaryWith, endsWith, entriesClosed, entriesWith, finished, newContainer, parentWith, textWith, withCounts}
+use Rattle.semantics.specs.Step.{carriedOut, countWith, dictionaryOf, dictionaryWith, endsWith, entriesClosed, entriesWith, finished, newContainer, parentWith, textWith, withCounts, withUnique}
 use Rattle.actions.specs.declared.Moved.{Moved}
 use Rattle.actions.specs.declared.Opened.{Opened}
+use Rattle.actions.specs.declared.UniqueSet.{UniqueSet}
 use Rattle.actions.specs.declared.Ended.{Ended}
 use Rattle.actions.specs.declared.enter.Entered.{Entered}
 
@@ -41,6 +42,11 @@ pub record Opens (v : View) (l : Storage) (nm : Option Name) (object : Bool) (r 
   pub container : r .container ≡ cond (eqb (numberOf v l (openIn nm object)) 0) (newContainer v l nm object) (v .inner)
   pub storage : after ≡ cond (eqb (numberOf v l (openIn nm object)) 0) (carriedOut v l (openIn nm object) .storage) l
 
+-- of the uniqueness mark the innermost container
+pub record SetsUnique (v : View) (l : Storage) (u : Bool) (r : UniqueSet) : Type 0 where
+  pub number : r .number ≡ numberOf v l (uniqueness u)
+  pub container : r .container ≡ cond (eqb (numberOf v l (uniqueness u)) 0) (withUnique (v .inner) u) (v .inner)
+
 -- of a finish also the bytes written, and the output
 pub record Ends (v : View) (l : Storage) (out : List ℕ) (r : Ended) (after : List ℕ) : Type 0 where
   pub number : r .number ≡ numberOf v l (finish out)
@@ -54,8 +60,8 @@ adds new m text ends name = new && hasRoom m text ends name
 
 pub record Registers (new : Bool) (m : MetadataBuilder) (text ends : List ℕ) (name : Name) (r : MetadataBuilder) (textAfter endsAfter : List ℕ) : Type 0 where
   pub metadata : r ≡ cond (adds new m text ends name) (added m text ends name) m
-  pub textLeft : textAfter ≡ cond (adds new m text ends name) (write (m .text) name text) text
-  pub endsLeft : endsAfter ≡ cond (adds new m text ends name) (set ends (m .names) (m .text + length name)) ends
+  pub textLeft : textAfter ≡ cond (adds new m text ends name) (write (textSize m) name text) text
+  pub endsLeft : endsAfter ≡ cond (adds new m text ends name) (set ends (fieldNames m) (textSize m + length name)) ends
 
 -- ---- the entry of a value, as it is put: in the place of a live name's, or as a fresh one
 abbrev pub entriesPut : Entered → List ℕ → List ℕ
@@ -87,7 +93,7 @@ pub record EntersBy (v : View) (l : Storage) (nm : Option Name) (opens : Bool) (
 -- the container that opens, of the counts before and what was entered
 abbrev pub childOf : Counts → Entered → ParentEntry → Bool → Container
 childOf c e p object =
-    record { value = c .value; names = c .dictionary .names; text = c .dictionary .text; entries = e .counts .entries; parent = p; object = object; unique = e .unique }
+    record { value = c .value; names = fieldNames (c .dictionary); text = textSize (c .dictionary); entries = e .counts .entries; parent = p; object = object; unique = e .unique }
 
 -- ---- the innermost's header put before its data
 abbrev pub frameOf : View → Frame

@@ -16,7 +16,8 @@
 // under the License.
 
 // Each call over pieces of the builder's record: what it sees of the record (`View`), and the lent slices. A piece decides all
-// rows of its call first and then acts; it gives back the number and the counts, and of an open the container. The calls over
+// rows of its call first and then acts; it gives back the number and the counts, of an open and of the
+// uniqueness mark the container. The calls over
 // the whole record are in the crate `builder`.
 // Derived from `ParentState`, `ListState` and `ObjectState` of parquet-variant 60.1.0, src/builder.rs, src/builder/list.rs and
 // src/builder/object.rs (see NOTICE), as are the modules here. Changed: written in Rattle, over counts and lent slices.
@@ -26,6 +27,7 @@ mod enter;
 mod header;
 mod open;
 mod undo;
+mod unique;
 
 pub use append::append_bytes_over;
 pub use append::append_uuid_over;
@@ -41,6 +43,7 @@ pub use open::register;
 use semantics::Container;
 use semantics::Counts;
 pub use undo::rollback_over;
+pub use unique::unique_over;
 
 // A call's number, 0 where it is carried out, and the counts then.
 pub struct Moved {
@@ -51,6 +54,12 @@ pub struct Moved {
 // Those of an open, and the container.
 pub struct Opened {
     pub counts: Counts,
+    pub container: Container,
+    pub number: u8,
+}
+
+// The number of a call that sets the uniqueness mark, and the innermost container then.
+pub struct UniqueSet {
     pub container: Container,
     pub number: u8,
 }

@@ -6,6 +6,8 @@ use crate::Opened;
 use crate::enter::Entered;
 use crate::enter::enter_over;
 use crate::enter::note;
+use metadata::metadata_size;
+use metadata::num_field_names;
 use semantics::Container;
 use semantics::Counts;
 use semantics::ParentEntry;
@@ -85,10 +87,12 @@ pub fn child(before: Counts, e: Entered, parent: ParentEntry, object: bool) -> C
     ensures { λ r. ⌜ r ≡ childOf before e parent object ⌝ }
 {
     let m = before.dictionary;
+    let names = num_field_names(m);
+    let text = metadata_size(m);
     Container {
         value: before.value,
-        names: m.names,
-        text: m.text,
+        names: names,
+        text: text,
         entries: e.counts.entries,
         parent: parent,
         object: object,

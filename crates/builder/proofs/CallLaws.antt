@@ -1,22 +1,19 @@
 -- A call over the record by value, from the call over its pieces.
 use mathlib.Core.Path.{_≡_, refl, sym, _∙_, ap}
-use mathlib.Core.Bool.{Bool, true, false, cond, _&&_, _||_, and-eq-true-iff}
+use mathlib.Core.Bool.{Bool, true, false, cond}
 use mathlib.Core.List.{List}
 use mathlib.Core.Option.{Option}
 use Prim.Native.Nat.{ℕ, _-_, _≤_, _<_}
-use lib.Dec.{eqb, leb, ltb}
+use lib.Dec.{eqb}
 use lib.ListN.{set}
-use borrow.Author.Tests.{eqb-true, eq-eqb, ne-eqb, leb-true, leb-false, ltb-true, not-false}
+use borrow.Author.Tests.{eqb-true, eq-eqb, ne-eqb, leb-false}
 use Rattle.metadata.specs.Names.{Name}
 use Rattle.semantics.specs.declared.Builder.{Builder}
-use Rattle.semantics.specs.declared.Container.{Container}
 use Rattle.semantics.specs.declared.View.{View}
-use Rattle.semantics.specs.Record.{Storage, Call, openIn, uniqueness, finish, viewOf, innermost, inObject, rising, chained}
-use Rattle.semantics.specs.Damage.{overUsed, grown, unchained}
+use Rattle.semantics.specs.Record.{Storage, Call, openIn, uniqueness, finish, viewOf}
 use Rattle.semantics.proofs.Demand1.{none-at}
-use Rattle.refusals.proofs.ViewLaws.{neither}
 use Rattle.semantics.specs.Table.{numberOf}
-use Rattle.semantics.specs.Step.{Outcome, step, after, carriedOut, containersAfter, withUnique}
+use Rattle.semantics.specs.Step.{Outcome, step, after, carriedOut, containersAfter}
 use Rattle.builder.specs.declared.Answer.{Answer}
 use Rattle.builder.specs.declared.Answer.the-variants.{Done, Refused}
 use Rattle.builder.specs.declared.Called.{Called}
@@ -24,8 +21,10 @@ use Rattle.builder.specs.declared.FinishCalled.{FinishCalled}
 use Rattle.actions.specs.declared.Moved.{Moved}
 use Rattle.actions.specs.declared.Opened.{Opened}
 use Rattle.builder.specs.Calls.{answerNumber, answerOf, state, calledBy, Does, finishAnswer, Finishes}
+use Rattle.actions.specs.declared.UniqueSet.{UniqueSet}
 use Rattle.actions.specs.declared.Ended.{Ended}
-use Rattle.actions.specs.Actions.{Leaves, Opens, Ends}
+use Rattle.actions.specs.Actions.{Leaves, Opens, SetsUnique, Ends}
+use Rattle.actions.proofs.UniqueLaws.{unique-open}
 
 -- an answer has the number that it is made of
 pub answer-number : (n : ℕ) → answerNumber (answerOf n) ≡ n
@@ -80,8 +79,8 @@ module _ (b : Builder) (l : Storage) (nm : Option Name) (object : Bool) {v : Vie
       let z = ne-eqb (numberOf (viewOf b) l (openIn nm object)) 0 (λ f. h (w .number ∙ f)) in
       does (step (state b l) (openIn nm object)) (rw (step-refused b l (openIn nm object) z, step-refused-storage b l (openIn nm object) z, d, w .number, w .storage, z) (refl, refl))
 
-  pub does-opened : {a : Answer} → r .number ≡ 0 → a ≡ answerOf 0
-      → Does (record { answer = a; builder = record { containers = set (b .containers) (b .counts .depth) (r .container); counts = r .counts } }) e (step (state b l) (openIn nm object))
+  pub does-opened : {x : Called} → r .number ≡ 0 → x ≡ record { answer = answerOf 0; builder = record { containers = set (b .containers) (b .counts .depth) (r .container); counts = r .counts } }
+      → Does x e (step (state b l) (openIn nm object))
   unfolding after
   does-opened h d =
       let w = rw p at q in
@@ -95,33 +94,23 @@ module _ (b : Builder) (l : Storage) (nm : Option Name) (object : Bool) {v : Vie
       leb-false 64 (b .counts .depth) (none-at (viewOf b) l (openIn nm object) (sym (w .number) ∙ h) 11)
 
 -- the uniqueness mark
-module _ (b : Builder) (l : Storage) (u : Bool) {v : View} {n : ℕ} (p : v ≡ viewOf b) (q : (u : Bool) → n ≡ numberOf v l (uniqueness u)) where
-  pub unique-refused : {a : Answer} → (n ≡ 0 → ⊥) → a ≡ answerOf n → Does (record { answer = a; builder = b }) l (step (state b l) (uniqueness u))
+module _ (b : Builder) (l : Storage) (u : Bool) {v : View} {r : UniqueSet} (p : v ≡ viewOf b) (q : SetsUnique v l u r) where
+  pub unique-refused : {a : Answer} → (r .number ≡ 0 → ⊥) → a ≡ answerOf (r .number) → Does (record { answer = a; builder = b }) l (step (state b l) (uniqueness u))
   unique-refused h d =
-      let w : n ≡ numberOf (viewOf b) l (uniqueness u) = rw p at (q u) in
-      let z = ne-eqb (numberOf (viewOf b) l (uniqueness u)) 0 (λ f. h (w ∙ f)) in
-      does (step (state b l) (uniqueness u)) (rw (step-refused b l (uniqueness u) z, step-refused-storage b l (uniqueness u) z, d, w, z) (refl, refl))
+      let w = rw p at q in
+      let z = ne-eqb (numberOf (viewOf b) l (uniqueness u)) 0 (λ f. h (w .number ∙ f)) in
+      does (step (state b l) (uniqueness u)) (rw (step-refused b l (uniqueness u) z, step-refused-storage b l (uniqueness u) z, d, w .number, z) (refl, refl))
 
-  pub unique-marked : {a : Answer} {k : Container} → n ≡ 0 → a ≡ answerOf 0 → k ≡ withUnique (v .inner) u
-      → Does (record { answer = a; builder = record { containers = set (b .containers) (b .counts .depth - 1) k; counts = b .counts } }) l (step (state b l) (uniqueness u))
+  pub unique-done : {x : Called} → r .number ≡ 0 → x ≡ record { answer = answerOf 0; builder = record { containers = set (b .containers) (b .counts .depth - 1) (r .container); counts = b .counts } }
+      → Does x l (step (state b l) (uniqueness u))
   unfolding after
-  unique-marked h d k =
-      let w : n ≡ numberOf (viewOf b) l (uniqueness u) = rw p at (q u) in
-      let z = eq-eqb (numberOf (viewOf b) l (uniqueness u)) 0 (sym w ∙ h) in
-      does (step (state b l) (uniqueness u)) (rw (step-done b l (uniqueness u) z, step-done-storage b l (uniqueness u) z, d, k, p) (refl, refl))
+  unique-done h d =
+      let w = rw p at q in
+      let z = eq-eqb (numberOf (viewOf b) l (uniqueness u)) 0 (sym (w .number) ∙ h) in
+      does (step (state b l) (uniqueness u)) (rw (step-done b l (uniqueness u) z, step-done-storage b l (uniqueness u) z, d, w .container, z) (refl, refl))
 
-  -- the innermost is one of the 64
-  pub unique-open : n ≡ 0 → (0 < b .counts .depth) × (b .counts .depth ≤ 64)
-  unfolding unchained chained
-  unique-open h =
-      let w : n ≡ numberOf (viewOf b) l (uniqueness u) = rw p at (q u) in
-      let k = none-at (viewOf b) l (uniqueness u) (sym w ∙ h) in
-      let d = b .counts .depth in
-      let i = and-eq-true-iff (ltb 0 d) (innermost (b .containers) d .object) .0 (not-false (inObject (viewOf b)) (k 3)) in
-      let g = neither (overUsed (viewOf b) l) (unchained (viewOf b) || false) (k 1) in
-      let f = neither (unchained (viewOf b)) false (g .1) in
-      let c = and-eq-true-iff (chained (b .containers) d) (grown (viewOf b)) .0 (not-false (chained (b .containers) d && grown (viewOf b)) (f .0)) in
-      (ltb-true 0 d (i .0), leb-true d 64 (and-eq-true-iff (leb d 64) (rising (b .containers) (d - 1)) .0 (c .0) .0))
+  pub unique-inside : r .number ≡ 0 → (0 < b .counts .depth) × (b .counts .depth ≤ 64)
+  unique-inside h = let w = rw p at q in unique-open b l u (sym (w .number) ∙ h)
 
 -- a finish
 pub does-finished : (b : Builder) (l : Storage) (out : List ℕ) {v : View} {r : Ended} {left : List ℕ} {x : FinishCalled} → v ≡ viewOf b → Ends v l out r left

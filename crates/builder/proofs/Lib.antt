@@ -1,4 +1,3 @@
--- The laws of the calls: what a call sees, and the call by value from its piece.
-pub mod ViewLaws
+-- The laws of the calls: the call by value from its piece.
 pub mod CallLaws
 pub mod Demands

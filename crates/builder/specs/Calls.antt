@@ -5,11 +5,10 @@ use mathlib.Core.List.{List, [], _∷_}
 use Prim.Native.Nat.{ℕ}
 use lib.Dec.{eqb}
 use lib.ListN.{replicate, take}
-use Rattle.metadata.specs.Calls.{fresh}
 use Rattle.semantics.specs.declared.Builder.{Builder}
 use Rattle.semantics.specs.Record.{Storage, State, Call, finish, noContainer}
 use Rattle.semantics.specs.Step.{Outcome, step}
-use Rattle.semantics.specs.Run.{Fresh, isFinish}
+use Rattle.semantics.specs.Run.{Fresh, freshCounts, isFinish}
 use Rattle.builder.specs.declared.Answer.{Answer}
 use Rattle.builder.specs.declared.Answer.the-variants.{Done, Refused}
 use Rattle.builder.specs.declared.Called.{Called}
@@ -64,10 +63,7 @@ Finishes r after out o = (r ≡ finishCalledBy o) × (after ≡ o .state .storag
 -- containers, which are left free, are all empty.
 unfoldable pub freshOf : Bool → Builder
 freshOf u =
-    record {
-      containers = replicate 64 noContainer;
-      counts = record { value = 0; entries = 0; depth = 0; dictionary = fresh; unique = u; finished = false };
-    }
+    record { containers = replicate 64 noContainer; counts = freshCounts u }
 
 -- ---- calls made one after the other
 

@@ -6,6 +6,7 @@ use crate::FinishAnswer;
 use crate::FinishCalled;
 use crate::view::answer_of;
 use crate::view::called;
+use crate::view::called_with;
 use crate::view::view_of;
 use actions::append_bytes_over;
 use actions::append_uuid_over;
@@ -15,9 +16,8 @@ use actions::finish_over;
 use actions::open_over;
 use actions::register;
 use actions::rollback_over;
-use refusals::unique_number;
+use actions::unique_over;
 use semantics::Builder;
-use semantics::Container;
 use value::variant::Variant;
 use value::variant::VariantBytes;
 ghost use mathlib.Core.Path.{_≡_};
@@ -160,19 +160,9 @@ fn new_container(
             builder: b,
         };
     }
-    let at = b.counts.depth;
     let k = r.container;
     let c = r.counts;
-    let mut cs = b.containers;
-    cs[at] = k;
-    let next = Builder {
-        containers: cs,
-        counts: c,
-    };
-    Called {
-        answer: answer_of(0),
-        builder: next,
-    }
+    called_with(b, b.counts.depth, k, c)
 }
 
 pub fn close(
@@ -218,36 +208,17 @@ pub fn with_validate_unique_fields(
         (step (state b (storageOf (now (value .entry)) (now (text .entry)) (now (ends .entry)) (now (entries .entry)))) (uniqueness unique)) ⌝ }
 {
     let v = view_of(b);
-    let n = unique_number(v, value, text, ends, entries);
+    let r = unique_over(v, value, text, ends, entries, unique);
+    let n = r.number;
     if n != 0 {
         return Called {
             answer: answer_of(n),
             builder: b,
         };
     }
-    let k = v.inner;
-    let p = k.parent;
-    let at = b.counts.depth - 1;
-    let marked = Container {
-        value: k.value,
-        names: k.names,
-        text: k.text,
-        entries: k.entries,
-        parent: p,
-        object: k.object,
-        unique: unique,
-    };
+    let k = r.container;
     let c = b.counts;
-    let mut cs = b.containers;
-    cs[at] = marked;
-    let next = Builder {
-        containers: cs,
-        counts: c,
-    };
-    Called {
-        answer: answer_of(0),
-        builder: next,
-    }
+    called_with(b, b.counts.depth - 1, k, c)
 }
 
 // The dictionary at the start of `out`, and the builder finished: `VariantBuilder::finish` of the Rust.

@@ -5,10 +5,13 @@ use actions::Moved;
 use semantics::Builder;
 use semantics::Container;
 use semantics::Counts;
-use semantics::ParentEntry;
 use semantics::View;
+use semantics::fresh_counts;
+use semantics::no_container;
 ghost use mathlib.Core.Path.{_≡_};
-ghost use Rattle.semantics.specs.Record.{chained, innermost, noContainer, parentOf, viewOf};
+ghost use Prim.Native.Nat.{_<_};
+ghost use lib.ListN.{set};
+ghost use Rattle.semantics.specs.Record.{chained, innermost, parentOf, viewOf};
 ghost use Rattle.semantics.specs.Record.{under as underOf};
 ghost use Rattle.builder.specs.Calls.{answerOf, freshOf};
 
@@ -18,32 +21,10 @@ pub fn new(unique: bool) -> Builder
 {
     let e = no_container();
     let cs = [e; 64];
-    let m = metadata::new();
-    let c = Counts {
-        value: 0,
-        entries: 0,
-        depth: 0,
-        dictionary: m,
-        unique: unique,
-        finished: false,
-    };
+    let c = fresh_counts(unique);
     Builder {
         containers: cs,
         counts: c,
-    }
-}
-
-fn no_container() -> Container
-    ensures { λ r. ⌜ r ≡ noContainer ⌝ }
-{
-    Container {
-        value: 0,
-        names: 0,
-        text: 0,
-        entries: 0,
-        parent: ParentEntry::New,
-        object: false,
-        unique: false,
     }
 }
 
@@ -138,6 +119,23 @@ pub(crate) fn called(b: Builder, r: Moved) -> Called
     };
     Called {
         answer: answer_of(r.number),
+        builder: next,
+    }
+}
+
+// The record with another container at a place, and other counts.
+pub(crate) fn called_with(b: Builder, at: usize, k: Container, c: Counts) -> Called
+    requires { ⌜ at < 64 ⌝ }
+    ensures { λ x. ⌜ x ≡ record { answer = answerOf 0; builder = record { containers = set (b .containers) at k; counts = c } } ⌝ }
+{
+    let mut cs = b.containers;
+    cs[at] = k;
+    let next = Builder {
+        containers: cs,
+        counts: c,
+    };
+    Called {
+        answer: answer_of(0),
         builder: next,
     }
 }

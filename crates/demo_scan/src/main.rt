@@ -12,6 +12,7 @@ use builder::finish;
 use builder::new;
 use builder::new_list;
 use builder::new_object;
+use libc::STDOUT_FILENO;
 use semantics::Builder;
 use value::decimal::VariantDecimal4;
 use value::variant::Variant;
@@ -222,7 +223,7 @@ fn after(what: &[u8], called: Called) -> Builder {
 fn line(what: &[u8], number: usize) {
     print::text(what);
     print::text(b" ");
-    print::number(number);
+    io::print_decimal(STDOUT_FILENO, number as u64);
     print::text(b"\n");
 }
 

@@ -21,23 +21,21 @@ use Rattle.semantics.specs.declared.View.{View}
 use Rattle.semantics.specs.Record.{Storage, Call, Scalars, fixed, bytes, append, register, scalarOf, openIn, uniqueness, finish, containerAt, noContainer, viewOf, storageOf}
 use Rattle.semantics.specs.Table.{scalarRows, numberOf}
 use Rattle.refusals.specs.Decide.{enterRows, nameOf}
-use Rattle.semantics.specs.Run.{Fresh}
-use Rattle.semantics.specs.Step.{step, after, containersAfter, withUnique}
+use Rattle.semantics.specs.Run.{Fresh, freshCounts}
+use Rattle.semantics.specs.Step.{step, after, containersAfter}
 use Rattle.semantics.proofs.Demand1.{none-at}
 use Rattle.actions.specs.declared.Moved.{Moved}
 use Rattle.actions.specs.declared.Opened.{Opened}
+use Rattle.actions.specs.declared.UniqueSet.{UniqueSet}
 use Rattle.actions.specs.declared.Ended.{Ended}
 use Rattle.actions.specs.declared.enter.Entered.{Entered}
-use Rattle.actions.specs.Actions.{EntersBy, Leaves, Opens, Ends, childOf, entriesPut, parentPut}
+use Rattle.actions.specs.Actions.{EntersBy, Leaves, Opens, SetsUnique, Ends, childOf, entriesPut, parentPut}
 use Rattle.actions.proofs.EnterLaws.{enter-clears}
 use Rattle.actions.proofs.AppendLaws.{append-refused, append-rows, append-stays, append-writes}
 use Rattle.actions.proofs.OpenLaws.{opens, opens-refused, registers}
-use Rattle.builder.specs.declared.Called.{Called}
-use Rattle.builder.specs.Calls.{answerNumber, Does}
-use Rattle.builder.proofs.CallLaws as builder
-use Rattle.builder.proofs.CallLaws.{answer-number}
+use Rattle.actions.proofs.UniqueLaws.{unique-open}
 use Rattle.ffi.specs.Scalars.{bytesBy, kindOf, noScalar}
-use Rattle.ffi.specs.Words.{builderOf, containersOf, countsOf, stateOf, countsPut, wordsLeft, DoesWords, EntersWords, FinishesWords, freshCounts, Puts, PutsContainer, PutsCounts}
+use Rattle.ffi.specs.Words.{builderOf, containersOf, countsOf, stateOf, countsPut, wordsLeft, DoesWords, EntersWords, FinishesWords, Puts, PutsContainer, PutsCounts}
 use Rattle.ffi.proofs.WordLaws.{containers-length}
 
 -- what the maker leaves is a fresh builder
@@ -128,18 +126,7 @@ module _ (ws : List ℕ) (l : Storage) (nm : Option Name) (kind : ℕ) (bs : Lis
           absurd (true≢false (none-at (viewOf (builderOf ws)) l (append nm (fixed noScalar)) n 7))
       go false p = rw p (does-appended ws l nm (bytes (kindOf kind) bs) (rw p at o) s w z g b)
 
--- ---- from the call by value
-
-does-words : {x : Called} {l e : Storage} {c : Call} {n : ℕ} {ws us : List ℕ} → Does x e (step (stateOf ws l) c) → n ≡ answerNumber (x .answer) → builderOf us ≡ x .builder
-    → us ≡ cond (eqb n 0) (wordsLeft ws c (builderOf us)) ws → DoesWords n ws us l e c
-does-words {x} {l} {e} {c} {n} {ws} {us} d h b k =
-    let same : builderOf us ≡ step (stateOf ws l) c .state .builder = b ∙ ap (λ (y : Called). y .builder) (d .0) in
-    record {
-      number = h ∙ (ap (λ (y : Called). answerNumber (y .answer)) (d .0) ∙ answer-number (step (stateOf ws l) c .number));
-      builder = same;
-      storage = d .1;
-      words = k ∙ ap (λ (y : Builder). cond (eqb n 0) (wordsLeft ws c y) ws) same;
-    }
+-- ---- a container put
 
 -- the two parts of what words mean
 containers-of : (us : List ℕ) {b : Builder} → builderOf us ≡ b → containersOf us ≡ b .containers
@@ -153,18 +140,25 @@ container-put : (ks : List Container) (d : ℕ) (k : Container) → length ks �
 container-put ks d k e h = getD-set-same ks d k noContainer (omega arith)
 
 -- an open, refused or carried out
-module _ (ws : List ℕ) (l : Storage) (nm : Option Name) (object : Bool) {v : View} {r : Opened} {e : Storage} (p : v ≡ viewOf (builderOf ws)) (q : Opens v l nm object r e) where
+module _ (ws : List ℕ) (l : Storage) (nm : Option Name) (object : Bool) {r : Opened} {e : Storage} (q : Opens (viewOf (builderOf ws)) l nm object r e) where
   open-refused : (r .number ≡ 0 → ⊥) → DoesWords (r .number) ws ws l e (openIn nm object)
-  open-refused h = does-words (builder.does-refused (builderOf ws) l nm object p q h refl) (sym (answer-number (r .number))) refl (rw (ne-eqb (r .number) 0 h))
+  unfolding step
+  open-refused h =
+      let z = ne-eqb (numberOf (viewOf (builderOf ws)) l (openIn nm object)) 0 (λ f. h (q .number ∙ f)) in
+      record { number = rw z (q .number); builder = rw z refl; storage = rw (q .storage, z) refl; words = rw (ne-eqb (r .number) 0 h) refl }
 
-  open-done : {us : List ℕ} → r .number ≡ 0 → builderOf us ≡ record { containers = set (containersOf ws) (v .counts .depth) (r .container); counts = r .counts }
+  open-done : {us : List ℕ} → r .number ≡ 0 → builderOf us ≡ record { containers = set (containersOf ws) (countsOf ws .depth) (r .container); counts = r .counts }
       → us ≡ wordsLeft ws (openIn nm object) (builderOf us) → DoesWords 0 ws us l e (openIn nm object)
-  open-done h w k = does-words (builder.does-opened (builderOf ws) l nm object p q h refl) refl (w ∙ (rw p refl)) k
+  unfolding step after
+  open-done {us} h w k =
+      let z = eq-eqb (numberOf (viewOf (builderOf ws)) l (openIn nm object)) 0 (sym (q .number) ∙ h) in
+      let same : builderOf us ≡ after (stateOf ws l) (openIn nm object) .builder = w ∙ (rw (q .container, q .counts, z) refl) in
+      record { number = rw z refl; builder = rw z same; storage = rw (q .storage, z) refl; words = rw z (k ∙ ap (wordsLeft ws (openIn nm object)) same) }
 
 -- an open, from what is entered
 module _ (ws : List ℕ) (l : Storage) (nm : Option Name) (object : Bool) {e : Entered} {us text ends : List ℕ} (w : EntersWords ws us l nm true true 0 0 e text ends) where
   pub opens-stays : (e .number ≡ 0 → ⊥) → DoesWords (e .number) ws us l (storageOf (l .value) text ends (l .entries)) (openIn nm object)
-  opens-stays z = rw (w .kept z) (open-refused ws l nm object refl (opens-refused object (w .enters) z) z)
+  opens-stays z = rw (w .kept z) (open-refused ws l nm object (opens-refused object (w .enters) z) z)
 
   pub opens-deep : e .number ≡ 0 → countsOf ws .depth < 64
   opens-deep z = enter-clears (viewOf (builderOf ws)) l nm true true 0 0 (sym (w .enters .number) ∙ z) .depth refl
@@ -176,23 +170,32 @@ module _ (ws : List ℕ) (l : Storage) (nm : Option Name) (object : Bool) {e : E
       let f = containers-of us (x .builder) in
       let h = counts-of us (x .builder) in
       let m = container-put (containersOf us) (countsOf ws .depth) k (containers-length us) (opens-deep z) in
-      open-done ws l nm object refl (opens object (w .enters) z g c) refl (d .builder ∙ rw (f, h)) (rw (containers-of xs (d .builder), counts-of xs (d .builder), m, h, ← x .words) (d .words))
+      open-done ws l nm object (opens object (w .enters) z g c) refl (d .builder ∙ rw (f, h)) (rw (containers-of xs (d .builder), counts-of xs (d .builder), m, h, ← x .words) (d .words))
 
 -- the uniqueness mark
-module _ (ws : List ℕ) (l : Storage) (u : Bool) {v : View} {n : ℕ} (p : v ≡ viewOf (builderOf ws)) (q : (u : Bool) → n ≡ numberOf v l (uniqueness u)) where
-  pub unique-refused : (n ≡ 0 → ⊥) → DoesWords n ws ws l l (uniqueness u)
-  unique-refused h = does-words (builder.unique-refused (builderOf ws) l u p q h refl) (sym (answer-number n)) refl (rw (ne-eqb n 0 h))
+module _ (ws : List ℕ) (l : Storage) (u : Bool) {v : View} {r : UniqueSet} (p : v ≡ viewOf (builderOf ws)) (q : SetsUnique v l u r) where
+  pub unique-refused : (r .number ≡ 0 → ⊥) → DoesWords (r .number) ws ws l l (uniqueness u)
+  unfolding step
+  unique-refused h =
+      let w = rw p at q in
+      let z = ne-eqb (numberOf (viewOf (builderOf ws)) l (uniqueness u)) 0 (λ f. h (w .number ∙ f)) in
+      record { number = rw z (w .number); builder = rw z refl; storage = rw z refl; words = rw (ne-eqb (r .number) 0 h) refl }
 
   -- the innermost is one of the 64
-  pub unique-open : n ≡ 0 → (0 < v .counts .depth) × (v .counts .depth ≤ 64)
-  unique-open h = rw p (builder.unique-open (builderOf ws) l u p q h)
+  pub unique-inside : r .number ≡ 0 → (0 < v .counts .depth) × (v .counts .depth ≤ 64)
+  unique-inside h = let w = rw p at q in rw p (unique-open (builderOf ws) l u (sym (w .number) ∙ h))
 
-  pub unique-done : {us : List ℕ} {k : Container} → n ≡ 0 → k ≡ withUnique (v .inner) u → PutsContainer ws us (v .counts .depth - 1) k → DoesWords 0 ws us l l (uniqueness u)
-  unique-done {us} {k} h c d =
-      let o = rw p at (unique-open h) in
+  pub unique-done : {us : List ℕ} → r .number ≡ 0 → PutsContainer ws us (v .counts .depth - 1) (r .container) → DoesWords 0 ws us l l (uniqueness u)
+  unfolding step after
+  unique-done {us} h d =
+      let w = rw p at q in
+      let o = rw p at (unique-inside h) in
       let y = rw p at d in
-      let m = container-put (containersOf ws) (countsOf ws .depth - 1) k (containers-length ws) (omega (arith, o .0, o .1)) in
-      does-words (builder.unique-marked (builderOf ws) l u p q h refl c) refl (y .builder) (rw (containers-of us (y .builder), m) (y .words))
+      let z = eq-eqb (numberOf (viewOf (builderOf ws)) l (uniqueness u)) 0 (sym (w .number) ∙ h) in
+      let m = container-put (containersOf ws) (countsOf ws .depth - 1) (r .container) (containers-length ws) (omega (arith, o .0, o .1)) in
+      let same : builderOf us ≡ after (stateOf ws l) (uniqueness u) .builder = y .builder ∙ (rw (w .container, z) refl) in
+      let k : us ≡ wordsLeft ws (uniqueness u) (builderOf us) = rw (containers-of us (y .builder), m) (y .words) in
+      record { number = rw z refl; builder = rw z same; storage = rw z refl; words = rw z (k ∙ ap (wordsLeft ws (uniqueness u)) same) }
 
 -- a finish, refused or carried out
 module _ (ws : List ℕ) (l : Storage) (out : List ℕ) (before : ℕ) {v : View} {r : Ended} {left : List ℕ} (p : v ≡ viewOf (builderOf ws)) (q : Ends v l out r left) where

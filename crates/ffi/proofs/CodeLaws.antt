@@ -8,7 +8,7 @@ use lib.IntN.{ℤ}
 use lib.Signed.{mag}
 use borrow.Author.Tests.{eqb-true}
 use Rattle.value.specs.Decimal.{outOfRange}
-use Rattle.value.specs.Scalar.{primitive, stored}
+use Rattle.value.specs.Scalar.{primitive, storedVariant}
 use Rattle.value.specs.declared.variant.Variant.{Variant}
 use Rattle.value.specs.declared.variant.Variant.the-variants.{Null, Int8, Int16, Int32, Int64, Date, TimestampMicros, TimestampNtzMicros, TimestampNanos, TimestampNtzNanos, Decimal4, Decimal8, Decimal16, Float, Double, BooleanTrue, BooleanFalse, Time}
 use Rattle.ffi.specs.Scalars.{noScalar, variantOf}
@@ -23,13 +23,13 @@ pick P c k x y a b = go (eqb c k) refl
 
 -- no scalar, or one that is stored under the code that it was asked by
 abbrev Coded : ℕ → Variant → Type 0
-Coded c v = (v ≡ noScalar) ⊎ (stored v .stored ≡ primitive c)
+Coded c v = (v ≡ noScalar) ⊎ (storedVariant v .storedType ≡ primitive c)
 
-held : (c : ℕ) (b : Bool) (x : Variant) → stored x .stored ≡ primitive c → Coded c (cond b x noScalar)
+held : (c : ℕ) (b : Bool) (x : Variant) → storedVariant x .storedType ≡ primitive c → Coded c (cond b x noScalar)
 held c true x e = inr e
 held c false x e = inl refl
 
-pub code-stored : (c : ℕ) (z : ℤ) (low scale : ℕ) → (variantOf c z low scale ≡ noScalar) ⊎ (stored (variantOf c z low scale) .stored ≡ primitive c)
+pub code-stored : (c : ℕ) (z : ℤ) (low scale : ℕ) → (variantOf c z low scale ≡ noScalar) ⊎ (storedVariant (variantOf c z low scale) .storedType ≡ primitive c)
 unfolding variantOf
 code-stored c z low scale =
     pick (Coded c) c 0 Null _ (λ e. inr (ap primitive e))

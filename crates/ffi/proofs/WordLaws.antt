@@ -6,6 +6,7 @@ use Prim.Native.Nat.{ℕ, zero, suc, _+_, _-_, _*_, _≤_, _<_}
 use native.Mathlib.Omega.{arith}
 use lib.ListN.{length, getD, set}
 use lib.Seq.{getD-set-other}
+use Rattle.metadata.specs.Names.{fieldNames, isSorted, textSize}
 use Rattle.semantics.specs.declared.Container.{Container}
 use Rattle.semantics.specs.declared.Counts.{Counts}
 use Rattle.semantics.specs.declared.ParentEntry.{ParentEntry}
@@ -72,16 +73,16 @@ counts-read (a0 ∷ a1 ∷ a2 ∷ a3 ∷ []) c h = absurd (omega arith)
 counts-read (a0 ∷ a1 ∷ a2 ∷ a3 ∷ a4 ∷ []) c h = absurd (omega arith)
 counts-read (a0 ∷ a1 ∷ a2 ∷ a3 ∷ a4 ∷ a5 ∷ []) c h = absurd (omega arith)
 counts-read (a0 ∷ a1 ∷ a2 ∷ a3 ∷ a4 ∷ a5 ∷ a6 ∷ []) c h = absurd (omega arith)
-counts-read (a0 ∷ a1 ∷ a2 ∷ a3 ∷ a4 ∷ a5 ∷ a6 ∷ a7 ∷ ws) c h = rw (flag-word (c .dictionary .sorted), flag-word (c .unique), flag-word (c .finished))
+counts-read (a0 ∷ a1 ∷ a2 ∷ a3 ∷ a4 ∷ a5 ∷ a6 ∷ a7 ∷ ws) c h = rw (flag-word (isSorted (c .dictionary)), flag-word (c .unique), flag-word (c .finished))
 
 -- the others stay
 counts-other : (ws : List ℕ) (c : Counts) (j : ℕ) → 8 ≤ j → wordAt (countsPut ws c) j ≡ wordAt ws j
 counts-other ws c j h =
-    getD-set-other (set (set (set (set (set (set (set ws 0 (c .value)) 1 (c .entries)) 2 (c .depth)) 3 (c .dictionary .names)) 4 (c .dictionary .text)) 5 (wordOf (c .dictionary .sorted))) 6 (wordOf (c .unique))) 7 j (wordOf (c .finished)) 0 (λ e. omega arith)
-    ∙ getD-set-other (set (set (set (set (set (set ws 0 (c .value)) 1 (c .entries)) 2 (c .depth)) 3 (c .dictionary .names)) 4 (c .dictionary .text)) 5 (wordOf (c .dictionary .sorted))) 6 j (wordOf (c .unique)) 0 (λ e. omega arith)
-    ∙ getD-set-other (set (set (set (set (set ws 0 (c .value)) 1 (c .entries)) 2 (c .depth)) 3 (c .dictionary .names)) 4 (c .dictionary .text)) 5 j (wordOf (c .dictionary .sorted)) 0 (λ e. omega arith)
-    ∙ getD-set-other (set (set (set (set ws 0 (c .value)) 1 (c .entries)) 2 (c .depth)) 3 (c .dictionary .names)) 4 j (c .dictionary .text) 0 (λ e. omega arith)
-    ∙ getD-set-other (set (set (set ws 0 (c .value)) 1 (c .entries)) 2 (c .depth)) 3 j (c .dictionary .names) 0 (λ e. omega arith)
+    getD-set-other (set (set (set (set (set (set (set ws 0 (c .value)) 1 (c .entries)) 2 (c .depth)) 3 (fieldNames (c .dictionary))) 4 (textSize (c .dictionary))) 5 (wordOf (isSorted (c .dictionary)))) 6 (wordOf (c .unique))) 7 j (wordOf (c .finished)) 0 (λ e. omega arith)
+    ∙ getD-set-other (set (set (set (set (set (set ws 0 (c .value)) 1 (c .entries)) 2 (c .depth)) 3 (fieldNames (c .dictionary))) 4 (textSize (c .dictionary))) 5 (wordOf (isSorted (c .dictionary)))) 6 j (wordOf (c .unique)) 0 (λ e. omega arith)
+    ∙ getD-set-other (set (set (set (set (set ws 0 (c .value)) 1 (c .entries)) 2 (c .depth)) 3 (fieldNames (c .dictionary))) 4 (textSize (c .dictionary))) 5 j (wordOf (isSorted (c .dictionary))) 0 (λ e. omega arith)
+    ∙ getD-set-other (set (set (set (set ws 0 (c .value)) 1 (c .entries)) 2 (c .depth)) 3 (fieldNames (c .dictionary))) 4 j (textSize (c .dictionary)) 0 (λ e. omega arith)
+    ∙ getD-set-other (set (set (set ws 0 (c .value)) 1 (c .entries)) 2 (c .depth)) 3 j (fieldNames (c .dictionary)) 0 (λ e. omega arith)
     ∙ getD-set-other (set (set ws 0 (c .value)) 1 (c .entries)) 2 j (c .depth) 0 (λ e. omega arith)
     ∙ getD-set-other (set ws 0 (c .value)) 1 j (c .entries) 0 (λ e. omega arith)
     ∙ getD-set-other ws 0 j (c .value) 0 (λ e. omega arith)

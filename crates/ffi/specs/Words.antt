@@ -6,7 +6,7 @@ use Prim.Native.Nat.{ℕ, zero, suc, _+_, _-_, _*_}
 use lib.Dec.{eqb}
 use lib.ListN.{getD, set}
 use Rattle.encoding.specs.Rows.{first}
-use Rattle.metadata.specs.Calls.{fresh}
+use Rattle.metadata.specs.Calls.{fromParts}
 use Rattle.semantics.specs.declared.Builder.{Builder}
 use Rattle.semantics.specs.declared.Container.{Container}
 use Rattle.semantics.specs.declared.Counts.{Counts}
@@ -15,7 +15,7 @@ use Rattle.semantics.specs.declared.ParentEntry.the-variants.{New, Replaced}
 use Rattle.semantics.specs.Record.{Storage, State, Call, register, append, openIn, close, rollBack, uniqueness, finish, containerAt, viewOf}
 use Rattle.semantics.specs.Step.{step}
 use mathlib.Core.Option.{Option}
-use Rattle.metadata.specs.Names.{Name}
+use Rattle.metadata.specs.Names.{Name, fieldNames, isSorted, textSize}
 use Rattle.refusals.specs.Decide.{enterRows}
 use Rattle.actions.specs.declared.enter.Entered.{Entered}
 use Rattle.actions.specs.Actions.{EntersBy}
@@ -35,7 +35,7 @@ countsOf ws =
       value = wordAt ws 0;
       entries = wordAt ws 1;
       depth = wordAt ws 2;
-      dictionary = record { names = wordAt ws 3; text = wordAt ws 4; sorted = flag (wordAt ws 5) };
+      dictionary = fromParts (wordAt ws 3) (wordAt ws 4) (flag (wordAt ws 5));
       unique = flag (wordAt ws 6);
       finished = flag (wordAt ws 7);
     }
@@ -100,7 +100,7 @@ abbrev pub countsPut : List ℕ → Counts → List ℕ
 countsPut ws c =
     set
     (set
-    (set (set (set (set (set (set ws 0 (c .value)) 1 (c .entries)) 2 (c .depth)) 3 (c .dictionary .names)) 4 (c .dictionary .text)) 5 (wordOf (c .dictionary .sorted))) 6
+    (set (set (set (set (set (set ws 0 (c .value)) 1 (c .entries)) 2 (c .depth)) 3 (fieldNames (c .dictionary))) 4 (textSize (c .dictionary))) 5 (wordOf (isSorted (c .dictionary)))) 6
     (wordOf (c .unique)))
     7
     (wordOf (c .finished))
@@ -156,10 +156,6 @@ pub record FinishesWords (n : ℕ) (before after : List ℕ) (l : Storage) (lent
 pub record PutsCounts (before after : List ℕ) (c : Counts) : Type 0 where
   pub words : after ≡ countsPut before c
   pub builder : builderOf after ≡ record { containers = containersOf before; counts = c }
-
--- the counts of a fresh builder; its containers, which are left free, are what the words hold
-abbrev pub freshCounts : Bool → Counts
-freshCounts u = record { value = 0; entries = 0; depth = 0; dictionary = fresh; unique = u; finished = false }
 
 -- ---- For the code.
 

@@ -36,11 +36,10 @@ use actions::enter_over;
 use actions::finish_over;
 use actions::note;
 use actions::rollback_over;
+use actions::unique_over;
 use refusals::row;
-use refusals::unique_number;
-use semantics::Container;
-use semantics::Counts;
 use semantics::View;
+use semantics::fresh_counts;
 use value::scalar::bytes_size;
 use value::scalar::variant_size;
 use value::scalar::write_bytes;
@@ -52,24 +51,17 @@ ghost use mathlib.Core.Path.{_≡_};
 ghost use mathlib.Core.Bool.{false, true};
 ghost use lib.ListN.{length};
 ghost use Rattle.semantics.specs.Record.{append as appendOf, close as closeOf, fixed, openIn, register as registerOf, rollBack, uniqueness, uuid as uuidOf, storageOf};
+ghost use Rattle.semantics.specs.Run.{freshCounts};
 ghost use Rattle.refusals.specs.Decide.{nameOf};
 ghost use Rattle.ffi.specs.Scalars.{bytesBy, variantOf};
-ghost use Rattle.ffi.specs.Words.{DoesWords, EntersWords, FinishesWords, PutsCounts, freshCounts};
+ghost use Rattle.ffi.specs.Words.{DoesWords, EntersWords, FinishesWords, PutsCounts};
 
 // A fresh builder; children inherit the uniqueness mark. It sets the counts alone.
 #[no_mangle]
 pub extern "C" fn variant_new(words: &mut [usize; WORDS], unique: bool)
     ensures { λ _. ⌜ PutsCounts (now (words .entry)) (now (words .exit)) (freshCounts unique) ⌝ }
 {
-    let m = metadata::new();
-    let c = Counts {
-        value: 0,
-        entries: 0,
-        depth: 0,
-        dictionary: m,
-        unique: unique,
-        finished: false,
-    };
+    let c = fresh_counts(unique);
     put_counts(words, c);
 }
 
@@ -357,22 +349,12 @@ pub extern "C" fn variant_with_validate_unique_fields(
         (storageOf (now (value .entry)) (now (text .entry)) (now (ends .entry)) (now (entries .entry))) (uniqueness unique) ⌝ }
 {
     let v = view_of(words);
-    let n = unique_number(v, value, text, ends, entries);
-    if n != 0 {
-        return n;
+    let r = unique_over(v, value, text, ends, entries, unique);
+    if r.number != 0 {
+        return r.number;
     }
-    let k = v.inner;
-    let p = k.parent;
-    let marked = Container {
-        value: k.value,
-        names: k.names,
-        text: k.text,
-        entries: k.entries,
-        parent: p,
-        object: k.object,
-        unique: unique,
-    };
-    put_container(words, v.counts.depth - 1, marked);
+    let k = r.container;
+    put_container(words, v.counts.depth - 1, k);
     0
 }
 

@@ -1,14 +1,19 @@
 // The state words read and written, piece by piece.
 use crate::WORDS;
 use actions::Moved;
+use metadata::from_parts;
+use metadata::is_sorted;
+use metadata::metadata_size;
+use metadata::num_field_names;
 use semantics::Container;
 use semantics::Counts;
 use semantics::ParentEntry;
 use semantics::View;
+use semantics::no_container;
 ghost use mathlib.Core.Path.{_≡_};
 ghost use Prim.Native.Nat.{_-_, _<_};
 ghost use lib.ListN.{length};
-ghost use Rattle.semantics.specs.Record.{chained, containerAt, innermost, noContainer, parentOf, viewOf};
+ghost use Rattle.semantics.specs.Record.{chained, containerAt, innermost, parentOf, viewOf};
 ghost use Rattle.semantics.specs.Record.{under as underOf};
 ghost use Rattle.ffi.specs.Words.{builderOf, containersOf, countsOf, Puts, PutsContainer, PutsCounts, flag as flagOf, idOf, offsetOf, parentEntryOf, tagOf, wordOf};
 
@@ -80,20 +85,6 @@ fn offset_of(e: ParentEntry) -> usize
     }
 }
 
-fn no_container() -> Container
-    ensures { λ r. ⌜ r ≡ noContainer ⌝ }
-{
-    Container {
-        value: 0,
-        names: 0,
-        text: 0,
-        entries: 0,
-        parent: ParentEntry::New,
-        object: false,
-        unique: false,
-    }
-}
-
 pub(crate) fn put_counts(words: &mut [usize; WORDS], c: Counts)
     ensures { λ _. ⌜ PutsCounts (now (words .entry)) (now (words .exit)) c ⌝ }
 {
@@ -102,9 +93,9 @@ pub(crate) fn put_counts(words: &mut [usize; WORDS], c: Counts)
     words[0] = c.value;
     words[1] = c.entries;
     words[2] = c.depth;
-    words[3] = m.names;
-    words[4] = m.text;
-    words[5] = word(m.sorted);
+    words[3] = num_field_names(m);
+    words[4] = metadata_size(m);
+    words[5] = word(is_sorted(m));
     words[6] = word(c.unique);
     words[7] = word(c.finished);
 }
@@ -130,11 +121,7 @@ pub(crate) fn put_container(words: &mut [usize; WORDS], d: usize, k: Container)
 pub(crate) fn counts_of(words: &[usize; WORDS]) -> Counts
     ensures { λ r. ⌜ r ≡ countsOf (now (words .entry)) ⌝ }
 {
-    let m = metadata::MetadataBuilder {
-        names: words[3],
-        text: words[4],
-        sorted: flag(words[5]),
-    };
+    let m = from_parts(words[3], words[4], flag(words[5]));
     Counts {
         value: words[0],
         entries: words[1],

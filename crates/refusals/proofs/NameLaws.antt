@@ -9,7 +9,7 @@ use lib.ListN.{length}
 use borrow.Author.Tests.{ltb-false, not-true, not-false}
 use Rattle.encoding.specs.Utf8.{utf8}
 use Rattle.metadata.specs.declared.FieldName.{FieldName}
-use Rattle.metadata.specs.Names.{Name, intact}
+use Rattle.metadata.specs.Names.{Name, intact, fieldNames}
 use Rattle.metadata.specs.Calls.{Told, lookup, told, hasRoom}
 use Rattle.metadata.proofs.DictionaryLaws.{place-low}
 use Rattle.metadata.proofs.BytesLaws.{length-names}
@@ -52,7 +52,7 @@ not-zero false x e = omega arith
 
 module _ (into : Bool) (v : View) (l : Storage) (n : Name) (k : Known) (s : Search) (unbroken : brokenOf v l ≡ false)
     (e : toldBy k ≡ lookup (v .counts .dictionary) (l .text) (l .ends) n)
-    (q : Searches (l .entries) (v .inner .entries) (v .counts .entries) (v .inner .object) (v .counts .dictionary .names) (innerSize v) (k .id) s) where
+    (q : Searches (l .entries) (v .inner .entries) (v .counts .entries) (v .inner .object) (fieldNames (v .counts .dictionary)) (innerSize v) (k .id) s) where
   any : (isOpen v && s .misplaced) ≡ misplacedInner v l
   unfolding misplacedInner
   any = rw (q .misplacedAny, range-within (l .entries) (v .inner .entries) (v .counts .entries) (entries-within v l unbroken))
@@ -71,10 +71,10 @@ module _ (into : Bool) (v : View) (l : Storage) (n : Name) (k : Known) (s : Sear
   found = rw at (found-before (l .entries) (v .inner .entries) (v .counts .entries) (k .id))
 
   -- a name that is not held gets the next id
-  fresh-id : intact (v .counts .dictionary) (l .text) (l .ends) ≡ true → held v l n ≡ false → idOf v l n ≡ v .counts .dictionary .names
+  fresh-id : intact (v .counts .dictionary) (l .text) (l .ends) ≡ true → held v l n ≡ false → idOf v l n ≡ fieldNames (v .counts .dictionary)
   fresh-id i h =
       let a = length-names (v .counts .dictionary) (l .text) (l .ends) i in
-      omega (arith, ltb-false (idOf v l n) (v .counts .dictionary .names) h, place-low n (namesHeld v l))
+      omega (arith, ltb-false (idOf v l n) (fieldNames (v .counts .dictionary)) h, place-low n (namesHeld v l))
 
   -- the cases of a look-up: intact, UTF-8, held, room
   sees-name : Sees into v l (some n) (named into v k s)
@@ -118,7 +118,7 @@ sees-unnamed {into} {v} {l} named name e q = rw (not-true named e, q) (sees-none
 -- one with a name: its look-up, then the pass over the innermost entries
 pub sees-named : {into : Bool} {v : View} {l : Storage} (named : Bool) (name : Name) {any : Bool} {k : Known} {s : Search} {size p n : ℕ} → not named ≡ false → brokenOf v l ≡ false
     → toldBy k ≡ lookup (v .counts .dictionary) (l .text) (l .ends) name → size ≡ innerSize v
-    → Searches (l .entries) (v .inner .entries) (v .counts .entries) (v .inner .object) (v .counts .dictionary .names) size (k .id) s → any ≡ isOpen v
+    → Searches (l .entries) (v .inner .entries) (v .counts .entries) (v .inner .object) (fieldNames (v .counts .dictionary)) size (k .id) s → any ≡ isOpen v
     → p ≡ cond (any && ((eqb (k .number) 0 && not (k .new)) && ltb (s .place) (v .counts .entries))) (s .place) 0
     → n ≡ cond (eqb (k .number) 1 || ((into && any) && s .misplaced)) 1 (k .number)
     → Sees into v l (nameOf named name)

@@ -7,7 +7,7 @@ use lib.Dec.{eqb, ltb}
 use lib.ListN.{length, take}
 use borrow.Author.Tests.{eqb-true, eq-eqb, ne-eqb}
 use Rattle.encoding.specs.Rows.{first}
-use Rattle.metadata.specs.Names.{intact, place}
+use Rattle.metadata.specs.Names.{intact, place, fieldNames}
 use Rattle.container.specs.declared.Search.{Search}
 use Rattle.container.specs.Entries.{Searches, roomFor}
 use Rattle.semantics.specs.declared.ParentEntry.the-variants.{New, Replaced}
@@ -23,14 +23,14 @@ pub use Rattle.refusals.proofs.ViewLaws.{broken-number, broken-close, d
 -- ---- a roll back's parent
 module _ (v : View) (l : Storage) (h : v .inner .entries ≤ roomFor (length (l .entries))) (s : Search) where
   -- of a new child: the parent has an entry
-  pub parent-new : v .inner .parent ≡ New → Searches (l .entries) (v .parent .entries) (v .inner .entries) (v .parent .object) (v .counts .dictionary .names) (parentSize v) 0 s
+  pub parent-new : v .inner .parent ≡ New → Searches (l .entries) (v .parent .entries) (v .inner .entries) (v .parent .object) (fieldNames (v .counts .dictionary)) (parentSize v) 0 s
       → ParentOf v l (record { place = 0; damaged = s .misplaced || not (ltb (v .parent .entries) (v .inner .entries)) })
   unfolding misplacedParent
   parent-new e q = record { damaged = rw (e, q .misplacedAny, range-within _ _ _ h, none-before (l .entries) (v .parent .entries) (v .inner .entries)); place = rw e }
 
   -- of a child that replaced another: the parent has an entry of its id, and enough data
   pub parent-replaced : (id offset : ℕ) → v .inner .parent ≡ Replaced id offset
-      → Searches (l .entries) (v .parent .entries) (v .inner .entries) (v .parent .object) (v .counts .dictionary .names) (parentSize v) id s
+      → Searches (l .entries) (v .parent .entries) (v .inner .entries) (v .parent .object) (fieldNames (v .counts .dictionary)) (parentSize v) id s
       → ParentOf v l (record { place = s .place; damaged = s .misplaced || (not (v .parent .object) || (not (ltb (s .place) (v .inner .entries)) || ltb (parentSize v) offset)) })
   unfolding misplacedParent
   parent-replaced id offset e q = record { damaged = rw (e, q .misplacedAny, q .placeFirst, range-within _ _ _ h, found-before (l .entries) (v .parent .entries) (v .inner .entries) id); place = rw (e, q .placeFirst, range-within _ _ _ h) }
@@ -54,7 +54,7 @@ module _ (v : View) (l : Storage) (p : Parent) (n : ℕ) (unbroken : brokenOf v 
 
 -- what the code answers after `broken`
 pub close-rows : (v : View) (l : Storage) (s : Search) → brokenOf v l ≡ false
-    → Searches (l .entries) (v .inner .entries) (v .counts .entries) (v .inner .object) (v .counts .dictionary .names) (innerSize v) 0 s
+    → Searches (l .entries) (v .inner .entries) (v .counts .entries) (v .inner .object) (fieldNames (v .counts .dictionary)) (innerSize v) 0 s
     → cond (not (intact (v .counts .dictionary) (l .text) (l .ends)) || (isOpen v && s .misplaced)) 1 (cond (v .counts .finished) 2 (cond (not (isOpen v)) 3 0))
     ≡ first (take 3 (rows v l close))
 unfolding first misplacedInner
@@ -62,7 +62,7 @@ close-rows v l s e q = rw (ends-read v l e, damaged-none v l (fallenEnds v l || 
 
 -- its answer
 pub closes-by : (v : View) (l : Storage) (s : Search) {n : ℕ} → brokenOf v l ≡ false
-    → Searches (l .entries) (v .inner .entries) (v .counts .entries) (v .inner .object) (v .counts .dictionary .names) (innerSize v) 0 s → n ≡ first (take 3 (rows v l close))
+    → Searches (l .entries) (v .inner .entries) (v .counts .entries) (v .inner .object) (fieldNames (v .counts .dictionary)) (innerSize v) 0 s → n ≡ first (take 3 (rows v l close))
     → ClosesBy v l (record { number = n; largest = s .largest })
 closes-by v l s e q n = record { number = n; largestId = rw e (rw (range-within _ _ _ (entries-within v l e)) at (q .largestId)) }
 

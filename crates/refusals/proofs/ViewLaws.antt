@@ -10,7 +10,7 @@ use lib.ListN.{drop, length, take}
 use borrow.Author.Tests.{ltb-true, ltb-false, lt-ltb, le-ltb, leb-true, eq-eqb, ne-eqb, not-false}
 use Rattle.encoding.specs.Rows.{first}
 use Rattle.encoding.specs.Slices.{counted}
-use Rattle.metadata.specs.Names.{exceeds, intact}
+use Rattle.metadata.specs.Names.{exceeds, intact, fieldNames, textSize}
 use Rattle.container.specs.Entries.{entriesOf, rangeOf, roomFor, seek}
 use Rattle.container.proofs.EntryLaws.{length-entries, seek-bound}
 use Rattle.semantics.specs.declared.View.{View}
@@ -83,7 +83,7 @@ damaged-none v l x e = let b = broken-none v l e in rw (b .0, b .1)
 -- the names and the entries lie within the lent slices
 pub record Within (v : View) (l : Storage) : Type 0 where
   pub text : exceeds (v .counts .dictionary) (length (l .text)) (length (l .ends)) ≡ false
-  pub names : v .counts .dictionary .names ≤ length (l .ends)
+  pub names : fieldNames (v .counts .dictionary) ≤ length (l .ends)
   pub entries : v .counts .entries ≤ roomFor (length (l .entries))
 
 -- and do
@@ -93,7 +93,7 @@ within v l e =
     let m = v .counts .dictionary in
     let x = exceeds m (length (l .text)) (length (l .ends)) in
     let o = neither x _ (neither (ltb (counted (length (l .value))) (v .counts .value)) _ (broken-none v l e .0) .1) in
-    let n = neither (ltb (counted (length (l .text))) (m .text)) (ltb (length (l .ends)) (m .names)) (o .0) in
+    let n = neither (ltb (counted (length (l .text))) (textSize m)) (ltb (length (l .ends)) (fieldNames m)) (o .0) in
     record { text = o .0; names = ltb-false _ _ (n .1); entries = ltb-false _ _ (o .1) }
 
 -- the used entries lie within the lent numbers
@@ -106,8 +106,8 @@ unfolding unchained
 inner-within v l e =
     let g = both (v .chain) (grown v) (not-false _ (broken-none v l e .1)) .1 in
     let k = both (leb (v .inner .value) (v .counts .value)) _ g .1 in
-    let n = both (leb (v .inner .names) (v .counts .dictionary .names)) _ k .1 in
-    let t = both (leb (v .inner .text) (v .counts .dictionary .text)) (leb (v .inner .entries) (v .counts .entries)) n .1 in
+    let n = both (leb (v .inner .names) (fieldNames (v .counts .dictionary))) _ k .1 in
+    let t = both (leb (v .inner .text) (textSize (v .counts .dictionary))) (leb (v .inner .entries) (v .counts .entries)) n .1 in
     let w = within v l e in
     omega (arith, leb-true)
 

@@ -6,6 +6,7 @@ use container::search_entries;
 use metadata::FieldName;
 use metadata::MetadataBuilder;
 use metadata::field_name;
+use metadata::num_field_names;
 use semantics::View;
 ghost use mathlib.Core.Path.{_≡_};
 ghost use mathlib.Core.Bool.{cond, false};
@@ -92,8 +93,9 @@ pub(crate) fn field_of(
     let k = v.inner;
     let m = c.dictionary;
     let n = look_up(m, text, ends, name);
+    let names = num_field_names(m);
     let size = saturating_sub(c.value, k.value);
-    let s = search_entries(entries, k.entries, c.entries, k.object, m.names, size, n.id);
+    let s = search_entries(entries, k.entries, c.entries, k.object, names, size, n.id);
     let open = is_open(v);
     let live = open & (((n.number == 0) & !n.new) & (s.place < c.entries));
     Named {

@@ -17,6 +17,7 @@ use crate::view::unique_now;
 use container::search_entries;
 use encoding::slices::fits;
 use metadata::intact;
+use metadata::num_field_names;
 use semantics::ParentEntry;
 use semantics::View;
 ghost use mathlib.Core.Path.{_≡_};
@@ -155,8 +156,9 @@ pub fn close_number(
     let c = v.counts;
     let k = v.inner;
     let m = c.dictionary;
+    let names = num_field_names(m);
     let size = saturating_sub(c.value, k.value);
-    let s = search_entries(entries, k.entries, c.entries, k.object, m.names, size, 0);
+    let s = search_entries(entries, k.entries, c.entries, k.object, names, size, 0);
     let open = is_open(v);
     let misread = !intact(m, text, ends) | (open & s.misplaced);
     let n = row(misread, 1, row(c.finished, 2, row(!open, 3, 0)));
@@ -264,18 +266,19 @@ fn parent_entry(v: View, entries: &[usize]) -> Parent
     let k = v.inner;
     let p = v.parent;
     let m = v.counts.dictionary;
+    let names = num_field_names(m);
     let entry = k.parent;
     let size = saturating_sub(k.value, p.value);
     match entry {
         ParentEntry::New => {
-            let s = search_entries(entries, p.entries, k.entries, p.object, m.names, size, 0);
+            let s = search_entries(entries, p.entries, k.entries, p.object, names, size, 0);
             Parent {
                 place: 0,
                 damaged: s.misplaced | !(p.entries < k.entries),
             }
         }
         ParentEntry::Replaced { id, offset } => {
-            let s = search_entries(entries, p.entries, k.entries, p.object, m.names, size, id);
+            let s = search_entries(entries, p.entries, k.entries, p.object, names, size, id);
             Parent {
                 place: s.place,
                 damaged: s.misplaced | (!p.object | (!(s.place < k.entries) | (size < offset))),

@@ -1,6 +1,8 @@
 // Tests of what a call sees of the record.
 use encoding::slices::counted;
 use metadata::exceeds;
+use metadata::metadata_size;
+use metadata::num_field_names;
 use semantics::View;
 ghost use mathlib.Core.Path.{_≡_};
 ghost use mathlib.Core.Bool.{cond};
@@ -47,7 +49,9 @@ fn grown(v: View) -> bool
     let k = v.inner;
     let c = v.counts;
     let m = c.dictionary;
-    (k.value <= c.value) & ((k.names <= m.names) & ((k.text <= m.text) & (k.entries <= c.entries)))
+    let names = num_field_names(m);
+    let text = metadata_size(m);
+    (k.value <= c.value) & ((k.names <= names) & ((k.text <= text) & (k.entries <= c.entries)))
 }
 
 pub(crate) fn is_open(v: View) -> bool

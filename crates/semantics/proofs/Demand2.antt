@@ -78,7 +78,7 @@ module _ (s : State) (cs : List Call) (r : FinishedRun s cs) where
 
   last-mark : at-last .machine .sorted ≡ sortedMark s cs
   unfolding sortedMark
-  last-mark = at-last .marked ∙ sym (run-ends r .sorted)
+  last-mark = at-last .markAgrees ∙ sym (run-ends r .sorted)
 
   -- the dictionary that the machine's names and mark give
   last-dictionary : dictionary (at-last .machine .sorted) (at-last .machine .names) ≡ keptDictionary s cs

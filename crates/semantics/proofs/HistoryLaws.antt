@@ -435,7 +435,7 @@ named-in nm v e = go nm (inObject v) refl e
 length-plain : (bs : List ℕ) → length bs ≤ length (plain bs .payload)
 length-plain bs = go (leb (length bs) 63)
   where
-    go : (t : Bool) → length bs ≤ length ((cond t (record { stored = short; payload = bs }) (long type.String bs)) .payload)
+    go : (t : Bool) → length bs ≤ length ((cond t (record { storedType = short; payload = bs }) (long type.String bs)) .payload)
     go true = omega arith
     go false = simp length-append (omega arith)
 

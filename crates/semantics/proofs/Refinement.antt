@@ -16,7 +16,7 @@ use Rattle.encoding.specs.Slices.{counted, fits, write}
 use Rattle.encoding.proofs.SliceLaws.{length-write}
 use Rattle.value.specs.Scalar.{scalarBytes}
 use Rattle.metadata.specs.declared.MetadataBuilder.{MetadataBuilder}
-use Rattle.metadata.specs.Names.{Name, below, place}
+use Rattle.metadata.specs.Names.{Name, below, place, fieldNames, isSorted, textSize}
 use Rattle.metadata.specs.Bytes.{dictionary, dictionaryNames, joined, sizeOf}
 use Rattle.metadata.specs.Calls.{hasRoom, added, marked}
 use Rattle.metadata.proofs.BytesLaws.{intact-parts, dictionary-size, dictionary-read, size-least}
@@ -51,7 +51,7 @@ pub record Stored (c : Counts) (l : Storage) (m : Machine) : Type 0 where
   pub bytes : take (c .value) (l .value) ≡ m .bytes
   pub within : c .value ≤ counted (length (l .value))
   pub names : Kept (c .dictionary) (l .text) (l .ends) (m .names)
-  pub sorted : c .dictionary .sorted ≡ m .sorted
+  pub sorted : isSorted (c .dictionary) ≡ m .sorted
   pub entries : Used (l .entries) (c .entries) (m .entries)
   pub unique : c .unique ≡ m .unique
   pub finished : c .finished ≡ m .finished
@@ -115,10 +115,10 @@ module _ {v : View} {l : Storage} {m : Machine} (s : Sees v l m) where
   names-law : namesHeld v l ≡ m .names
   names-law = s .stored .names .holds .names
 
-  many-law : v .counts .dictionary .names ≡ length (m .names)
+  many-law : fieldNames (v .counts .dictionary) ≡ length (m .names)
   many-law = sym (s .stored .names .holds .count)
 
-  text-law : v .counts .dictionary .text ≡ length (joined (m .names))
+  text-law : textSize (v .counts .dictionary) ≡ length (joined (m .names))
   text-law = sym (s .stored .names .holds .total)
 
   open-law : isOpen v ≡ anyOpen (m .conts)
@@ -189,7 +189,7 @@ module _ {v : View} {l : Storage} {m : Machine} (s : Sees v l m) (o : Orderly m)
   over-none =
       let h = s .stored .names .holds in
       neither _ _ (le-ltb (counted (length (l .value))) (v .counts .value) (s .stored .within))
-      (neither _ _ (neither _ _ (le-ltb (counted (length (l .text))) (v .counts .dictionary .text) (h .inText)) (le-ltb (length (l .ends)) (v .counts .dictionary .names) (h .inEnds)))
+      (neither _ _ (neither _ _ (le-ltb (counted (length (l .text))) (textSize (v .counts .dictionary)) (h .inText)) (le-ltb (length (l .ends)) (fieldNames (v .counts .dictionary)) (h .inEnds)))
       (le-ltb (roomFor (length (l .entries))) (v .counts .entries) (used s .room)))
 
   chain-none : unchained v ≡ false
@@ -307,7 +307,7 @@ represents-number r o c = sees-number (sees r o) o c
 -- the dictionary then, and what the lent lists are
 record Named (d : MetadataBuilder) (text ends : List ℕ) (l : Storage) (ns : List Name) (mark : Bool) : Type 0 where
   kept : Kept d text ends ns
-  sorted : d .sorted ≡ mark
+  sorted : isSorted d ≡ mark
   text-size : length text ≡ length (l .text)
   ends-size : length ends ≡ length (l .ends)
 
@@ -337,7 +337,7 @@ module _ {v : View} {l : Storage} {m : Machine} (s : Sees v l m) where
       ns = m .names
 
       go : (t : Bool) → ltb (place n ns) (length ns) ≡ t → (not t && not (hasRoom d (l .text) (l .ends) n)) ≡ false
-          → Named (cond t d (added d (l .text) (l .ends) n)) (cond t (l .text) (write (d .text) n (l .text))) (cond t (l .ends) (set (l .ends) (d .names) (d .text + length n))) l
+          → Named (cond t d (added d (l .text) (l .ends) n)) (cond t (l .text) (write (textSize d) n (l .text))) (cond t (l .ends) (set (l .ends) (fieldNames d) (textSize d + length n))) l
           (cond t ns (ns ++ (n ∷ []))) (cond t (m .sorted) (cond (ltb 0 (length ns)) (m .sorted && below (getD ns (length ns - 1) []) n) true))
       go true e h = record { kept = s .stored .names; sorted = s .stored .sorted; text-size = refl; ends-size = refl }
       go false e h =
@@ -347,8 +347,8 @@ module _ {v : View} {l : Storage} {m : Machine} (s : Sees v l m) where
           record {
             kept = kept-added n (s .stored .names) q r;
             sorted = (λ i. cond (eqb (many-law s i) 0) true (s .stored .sorted i && below (getD (names-law s i) (many-law s i - 1) []) n)) ∙ first-mark (length ns) _;
-            text-size = (let c = b .inText in length-write (d .text) n (l .text) (omega arith));
-            ends-size = length-set (l .ends) (d .names) (d .text + length n);
+            text-size = (let c = b .inText in length-write (textSize d) n (l .text) (omega arith));
+            ends-size = length-set (l .ends) (fieldNames d) (textSize d + length n);
           }
 
 -- ---- the next value's entry
@@ -574,7 +574,7 @@ module _ {v : View} {l : Storage} {m : Machine} (s : Sees v l m) (o : Orderly m)
   record Innermost (k : Container) : Type 0 where
     is : v .inner ≡ k
     value : v .inner .value ≤ v .counts .value
-    names : v .inner .names ≤ v .counts .dictionary .names
+    names : v .inner .names ≤ fieldNames (v .counts .dictionary)
     entries : v .inner .entries ≤ v .counts .entries
 
   innermost-law : Innermost (topOf (m .conts))

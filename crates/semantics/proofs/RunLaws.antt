@@ -56,7 +56,7 @@ pub record Follows (lent : Lent) (s : State) (a : Account) (mark : Bool) : Type 
   pub machine : Machine
   pub represents : Represents s machine
   pub linked : Linked machine a
-  pub marked : machine .sorted ≡ mark
+  pub markAgrees : machine .sorted ≡ mark
   pub room : lentBy (s .storage) ≡ lent
 
 -- A FRESH BUILDER
@@ -66,7 +66,7 @@ follows-fresh s f =
       machine = record { bytes = []; names = []; entries = []; conts = []; sorted = false; unique = s .builder .counts .unique; finished = false };
       represents = represents-fresh s f;
       linked = linked-fresh (s .builder .counts .unique);
-      marked = refl;
+      markAgrees = refl;
       room = refl;
     }
 
@@ -101,12 +101,12 @@ module _ {lent : Lent} {s : State} {a : Account} {mark : Bool} (x : Follows lent
             machine = apply (x .machine) c;
             represents = represents-step (x .represents) o c n;
             linked = linked-step (x .linked) lent c (follows-clear c e);
-            marked = linked-mark (x .linked) c ∙ ap (λ b. markAfter (a .history) b c false) (x .marked);
+            markAgrees = linked-mark (x .linked) c ∙ ap (λ b. markAfter (a .history) b c false) (x .markAgrees);
             room = represents-lent (x .represents) o c n ∙ x .room;
           })
       go false p =
           let e = number-leaves s c (eqb-false (step s c .number) 0 p) .0 in
-          rw e (record { machine = x .machine; represents = x .represents; linked = linked-refused (x .linked) c; marked = x .marked; room = x .room })
+          rw e (record { machine = x .machine; represents = x .represents; linked = linked-refused (x .linked) c; markAgrees = x .markAgrees; room = x .room })
 
 -- ---- every list of calls
 

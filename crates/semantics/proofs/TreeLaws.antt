@@ -278,8 +278,8 @@ kinds-apart names ps qs r s e = list-not-object _ _ _ _ _ _ _ _ _ _ _ _ (simp ap
 
 scalar-apart : (names : List Name) (object : Bool) (x : Scalar) (is : Items) (r s : List ℕ) → encode names (nest object is) ++ r ≡ scalarBytes x ++ s → ⊥
 unfolding encode scalarBytes listBytes objectBytes listHeader objectHeader
-scalar-apart names true x is r s e = object-not-scalar _ _ _ _ _ _ _ _ _ (first-low (x .stored) (length (x .payload))) (simp append-assoc at e)
-scalar-apart names false x is r s e = list-not-scalar _ _ _ _ _ _ _ (first-low (x .stored) (length (x .payload))) (simp append-assoc at e)
+scalar-apart names true x is r s e = object-not-scalar _ _ _ _ _ _ _ _ _ (first-low (x .storedType) (length (x .payload))) (simp append-assoc at e)
+scalar-apart names false x is r s e = list-not-scalar _ _ _ _ _ _ _ (first-low (x .storedType) (length (x .payload))) (simp append-assoc at e)
 
 module _ (names : List Name) where
   -- a sound container's items are sound

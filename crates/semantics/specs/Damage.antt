@@ -6,7 +6,7 @@ use Prim.Native.Nat.{ℕ}
 use lib.Dec.{eqb, leb, ltb}
 use lib.ListN.{length, take}
 use Rattle.encoding.specs.Slices.{counted}
-use Rattle.metadata.specs.Names.{Name, exceeds, risen}
+use Rattle.metadata.specs.Names.{Name, exceeds, risen, fieldNames, textSize}
 use Rattle.container.specs.Entries.{misplaced, roomFor, seek}
 use Rattle.container.specs.declared.Entry.{Entry}
 use Rattle.semantics.specs.declared.ParentEntry.{ParentEntry}
@@ -26,7 +26,7 @@ abbrev pub grown : View → Bool
 grown v =
     let k = v .inner in
     let c = v .counts in
-    leb (k .value) (c .value) && (leb (k .names) (c .dictionary .names) && (leb (k .text) (c .dictionary .text) && leb (k .entries) (c .entries)))
+    leb (k .value) (c .value) && (leb (k .names) (fieldNames (c .dictionary)) && (leb (k .text) (textSize (c .dictionary)) && leb (k .entries) (c .entries)))
 
 -- "over 64 containers are open, or their starting marks fall or exceed the used counts"
 unfoldable pub unchained : View → Bool
@@ -34,15 +34,15 @@ unchained v = not (v .chain && grown v)
 
 -- "a name end that the call reads falls, or the last one (0 without names) isn't the used name bytes"
 unfoldable pub fallenEnds : View → Storage → Bool
-fallenEnds v l = not (risen 0 (take (v .counts .dictionary .names) (l .ends)) (v .counts .dictionary .text))
+fallenEnds v l = not (risen 0 (take (fieldNames (v .counts .dictionary)) (l .ends)) (textSize (v .counts .dictionary)))
 
 -- "an entry that it reads has an offset beyond its container's data .. or, in an object, an id not below the name count":
 -- the innermost's entries, and the parent's
 unfoldable pub misplacedInner : View → Storage → Bool
-misplacedInner v l = isOpen v && misplaced (v .inner .object) (v .counts .dictionary .names) (innerSize v) (innerEntries v l)
+misplacedInner v l = isOpen v && misplaced (v .inner .object) (fieldNames (v .counts .dictionary)) (innerSize v) (innerEntries v l)
 
 unfoldable pub misplacedParent : View → Storage → Bool
-misplacedParent v l = misplaced (v .parent .object) (v .counts .dictionary .names) (parentSize v) (parentEntries v l)
+misplacedParent v l = misplaced (v .parent .object) (fieldNames (v .counts .dictionary)) (parentSize v) (parentEntries v l)
 
 -- "a "new" child's parent has no entry, or a "replaced" child's parent is no object, has no entry of that id or has less
 -- data than the former offset"

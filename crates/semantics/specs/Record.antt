@@ -7,7 +7,7 @@ use lib.Dec.{leb, ltb}
 use lib.ListN.{getD, replicate, take}
 use Rattle.value.specs.declared.variant.Variant.{Variant}
 use Rattle.value.specs.declared.variant.VariantBytes.{VariantBytes}
-use Rattle.value.specs.Scalar.{Scalar, stored, storedBytes, storedUuid}
+use Rattle.value.specs.Scalar.{Scalar, storedVariant, storedBytes, storedUuid}
 use Rattle.metadata.specs.Names.{Name, namesOf}
 use Rattle.container.specs.Entries.{entriesOf}
 use Rattle.container.specs.declared.Entry.{Entry}
@@ -56,7 +56,7 @@ sixteen bs = take 16 (bs ++ replicate 16 0)
 
 -- the scalar as stored type and payload
 abbrev pub scalarOf : Scalars → Scalar
-scalarOf (fixed v) = stored v
+scalarOf (fixed v) = storedVariant v
 scalarOf (bytes k bs) = storedBytes k bs
 scalarOf (uuid bs) = storedUuid (sixteen bs)
 

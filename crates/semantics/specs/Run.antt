@@ -10,6 +10,7 @@ use Rattle.metadata.specs.Bytes.{dictionaryNames}
 use Rattle.metadata.specs.Bytes as bytes
 use Rattle.metadata.specs.Calls as dictionary
 use Rattle.semantics.specs.declared.Builder.{Builder}
+use Rattle.semantics.specs.declared.Counts.{Counts}
 use Rattle.semantics.specs.Record.{Storage, State, Call, register, append, openIn, close, rollBack, uniqueness, finish}
 use Rattle.semantics.specs.Step.{step}
 use Rattle.semantics.specs.Ledger.{Account, Lent, noLedger, ledgerAfter, marksAfter}
@@ -23,6 +24,10 @@ pub record Fresh (b : Builder) : Type 0 where
   pub dictionary : b .counts .dictionary ≡ dictionary.fresh
   pub finished : b .counts .finished ≡ false
   pub containers : length (b .containers) ≡ 64
+
+-- the counts that a maker gives
+abbrev pub freshCounts : Bool → Counts
+freshCounts u = record { value = 0; entries = 0; depth = 0; dictionary = dictionary.fresh; unique = u; finished = false }
 
 -- "Each call gets the builder that the last one returned or left, and the same storage as it was left"
 unfoldable pub run : State → List Call → State

@@ -7,7 +7,7 @@ use lib.Dec.{eqb, ltb}
 use lib.ListN.{length, set}
 use Rattle.encoding.specs.Slices.{write}
 use Rattle.value.specs.Scalar.{scalarBytes}
-use Rattle.metadata.specs.Names.{Name}
+use Rattle.metadata.specs.Names.{Name, fieldNames, isSorted, textSize}
 use Rattle.metadata.specs.Bytes.{dictionary}
 use Rattle.metadata.specs.Calls.{added, truncated}
 use Rattle.metadata.specs.declared.MetadataBuilder.{MetadataBuilder}
@@ -30,11 +30,11 @@ dictionaryWith v l (some n) = cond (held v l n) (v .counts .dictionary) (added (
 
 abbrev pub textWith : View → Storage → Option Name → List ℕ
 textWith v l none = l .text
-textWith v l (some n) = cond (held v l n) (l .text) (write (v .counts .dictionary .text) n (l .text))
+textWith v l (some n) = cond (held v l n) (l .text) (write (textSize (v .counts .dictionary)) n (l .text))
 
 abbrev pub endsWith : View → Storage → Option Name → List ℕ
 endsWith v l none = l .ends
-endsWith v l (some n) = cond (held v l n) (l .ends) (set (l .ends) (v .counts .dictionary .names) (v .counts .dictionary .text + length n))
+endsWith v l (some n) = cond (held v l n) (l .ends) (set (l .ends) (fieldNames (v .counts .dictionary)) (textSize (v .counts .dictionary) + length n))
 
 -- ---- the next value's entry in the innermost container
 
@@ -103,8 +103,8 @@ newContainer v l nm object =
     let c = v .counts in
     record {
       value = c .value;
-      names = c .dictionary .names;
-      text = c .dictionary .text;
+      names = fieldNames (c .dictionary);
+      text = textSize (c .dictionary);
       entries = countWith v l nm;
       parent = parentWith v l nm;
       object = object;
@@ -154,7 +154,7 @@ finished c = record { value = c .value; entries = c .entries; depth = c .depth; 
 
 -- "finish writes only the dictionary"
 unfoldable pub dictionaryOf : View → Storage → List ℕ
-dictionaryOf v l = dictionary (v .counts .dictionary .sorted) (namesHeld v l)
+dictionaryOf v l = dictionary (isSorted (v .counts .dictionary)) (namesHeld v l)
 
 abbrev pub carriedOut : View → Storage → Call → Left
 carriedOut v l (register n) = registered v l n

@@ -10,7 +10,7 @@ use Rattle.encoding.specs.Slices.{counted, fits}
 use Rattle.encoding.specs.Utf8.{utf8}
 use Rattle.value.specs.Decimal.{outOfRange}
 use Rattle.value.specs.Scalar.{illFormed, scalarBytes}
-use Rattle.metadata.specs.Names.{Name, place}
+use Rattle.metadata.specs.Names.{Name, place, fieldNames, textSize}
 use Rattle.metadata.specs.Bytes.{sizeOf}
 use Rattle.metadata.specs.Calls.{hasRoom}
 use Rattle.container.specs.Entries.{idsOf, offsetsOf, roomFor, seek}
@@ -42,7 +42,7 @@ abbrev pub idOf : View → Storage → Name → ℕ
 idOf v l n = place n (namesHeld v l)
 
 abbrev pub held : View → Storage → Name → Bool
-held v l n = ltb (idOf v l n) (v .counts .dictionary .names)
+held v l n = ltb (idOf v l n) (fieldNames (v .counts .dictionary))
 
 -- "the name is live in this object"
 abbrev pub live : View → Storage → Name → Bool
@@ -123,7 +123,7 @@ rows v l (finish out) =
     ∷ (row 2 (v .counts .finished)
     ∷ (row 4 (isOpen v)
     ∷ (row 15 (eqb (v .counts .value) 0)
-    ∷ (row 16 (not (leb (sizeOf (v .counts .dictionary .names) (v .counts .dictionary .text)) (counted (length out)))) ∷ []))))
+    ∷ (row 16 (not (leb (sizeOf (fieldNames (v .counts .dictionary)) (textSize (v .counts .dictionary))) (counted (length out)))) ∷ []))))
 
 -- a call's number
 unfoldable pub numberOf : View → Storage → Call → ℕ

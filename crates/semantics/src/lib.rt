@@ -19,6 +19,9 @@
 // Derived from the records `VariantBuilder`, `ParentState`, `ListState` and `ObjectState` of parquet-variant 60.1.0, src/builder.rs,
 // src/builder/list.rs and src/builder/object.rs (see NOTICE). Changed: written in Rattle, one record with 64 containers.
 use metadata::MetadataBuilder;
+ghost use mathlib.Core.Path.{_≡_};
+ghost use Rattle.semantics.specs.Record.{noContainer};
+ghost use Rattle.semantics.specs.Run.{freshCounts};
 
 // How a container's entry in its parent came about, read when the container is rolled back.
 pub enum ParentEntry {
@@ -59,4 +62,34 @@ pub struct View {
     pub inner: Container,
     pub parent: Container,
     pub chain: bool,
+}
+
+// No container: what stands for the innermost and for the parent where there is none.
+pub fn no_container() -> Container
+    ensures { λ r. ⌜ r ≡ noContainer ⌝ }
+{
+    Container {
+        value: 0,
+        names: 0,
+        text: 0,
+        entries: 0,
+        parent: ParentEntry::New,
+        object: false,
+        unique: false,
+    }
+}
+
+// The counts of a fresh builder; children inherit the uniqueness mark.
+pub fn fresh_counts(unique: bool) -> Counts
+    ensures { λ r. ⌜ r ≡ freshCounts unique ⌝ }
+{
+    let m = metadata::new();
+    Counts {
+        value: 0,
+        entries: 0,
+        depth: 0,
+        dictionary: m,
+        unique: unique,
+        finished: false,
+    }
 }

@@ -4,6 +4,7 @@
 use builder::new;
 use builder_mut::Call;
 use builder_mut::lend;
+use libc::STDOUT_FILENO;
 use semantics::Builder;
 use value::variant::Variant;
 
@@ -196,7 +197,7 @@ fn after(
 
 fn refused(number: u8) {
     print::text(b"refused ");
-    print::number(number as usize);
+    io::print_decimal(STDOUT_FILENO, number as u64);
     print::text(b"\n");
 }
 
@@ -227,7 +228,7 @@ fn line(
         refused(r.number);
         return;
     }
-    print::number(case);
+    io::print_decimal(STDOUT_FILENO, case as u64);
     print::text(b" ");
     print::hex(value, r.builder.counts.value);
     print::text(b" ");

@@ -1,11 +1,14 @@
-// The finished dictionaries of a few lists of names: for each its size and its first 16 bytes.
+// The finished dictionaries of a few lists of names: for each its size and its first 16 bytes. The last two have no names: whether
+// they were ever used is told from their bytes.
 // The file `stdout` was not made by this program. The same names were registered, or given to fields of an object that was
 // rolled back where the list says "cut", and finished, in a model of document 01 written apart from this code and in
 // parquet-variant 60.1.0 itself, with equal bytes.
+use libc::STDOUT_FILENO;
 use metadata::Finished;
 use metadata::MetadataBuilder;
 use metadata::add_field_name;
 use metadata::finish;
+use metadata::is_never_used;
 use metadata::new;
 use metadata::truncate_field_names;
 
@@ -18,6 +21,7 @@ fn main() {
     long(b"a name of 256 bytes", 256);
     long(b"a name of 65535 bytes", 65535);
     long(b"a name of 65536 bytes", 65536);
+    unnamed();
 }
 
 fn few() {
@@ -79,6 +83,26 @@ fn long(label: &[u8], n: usize) {
     line(label, m, &text, &ends);
 }
 
+// Two dictionaries without names: a fresh one, and one whose only name was cut.
+fn unnamed() {
+    let mut text = [0u8; 1];
+    let mut ends = [0usize; 1];
+    told(new(), &text, &ends);
+    let b = with(new(), &mut text, &mut ends, b"b");
+    told(truncate_field_names(b, 0, 0), &text, &ends);
+}
+
+// "never used" where the bytes written are those of such a dictionary, else "used".
+fn told(m: MetadataBuilder, text: &[u8], ends: &[usize]) {
+    let mut out = [0u8; 3];
+    finish(m, text, ends, &mut out);
+    if is_never_used(&out) {
+        line(b"never used", m, text, ends);
+    } else {
+        line(b"used", m, text, ends);
+    }
+}
+
 fn front(s: &[u8], n: usize) -> &[u8] {
     if n <= s.len() {
         return &s[0..n];
@@ -96,7 +120,7 @@ fn line(label: &[u8], m: MetadataBuilder, text: &[u8], ends: &[usize]) {
     match finish(m, text, ends, &mut out) {
         Finished::Written(n) => {
             print::text(b": ");
-            print::number(n);
+            io::print_decimal(STDOUT_FILENO, n as u64);
             print::text(b" bytes, ");
             print::front(&out, n);
             print::text(b"\n");

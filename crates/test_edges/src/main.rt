@@ -6,6 +6,8 @@ use builder::new;
 use builder_mut::Call;
 use builder_mut::LendCalled;
 use builder_mut::lend;
+use libc::STDOUT_FILENO;
+use metadata::num_field_names;
 use value::variant::Variant;
 use value::variant::VariantBytes;
 ghost use Prim.Native.Nat.{_≤_};
@@ -55,14 +57,15 @@ fn case(label: &[u8], before: &[u8], last: &[u8]) {
 fn line(label: &[u8], before: u8, s: LendCalled, value: &[u8], out: &[u8]) {
     print::text(label);
     print::text(b": ");
-    print::number(before as usize);
+    io::print_decimal(STDOUT_FILENO, before as u64);
     print::text(b" ");
-    print::number(s.number as usize);
+    io::print_decimal(STDOUT_FILENO, s.number as u64);
     print::text(b", ");
-    print::number(s.builder.counts.dictionary.names);
+    let m = s.builder.counts.dictionary;
+    io::print_decimal(STDOUT_FILENO, num_field_names(m) as u64);
     print::text(b" names, ");
     let used = s.builder.counts.value;
-    print::number(used);
+    io::print_decimal(STDOUT_FILENO, used as u64);
     print::text(b" bytes");
     if 0 < used {
         print::text(b", ");

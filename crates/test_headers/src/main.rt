@@ -7,6 +7,7 @@ use container::close_list;
 use container::close_object;
 use container::put_entry;
 use container::search_entries;
+use libc::STDOUT_FILENO;
 use metadata::MetadataBuilder;
 use metadata::add_field_name;
 
@@ -121,7 +122,7 @@ fn line(label: &[u8], closed: Closed, size: usize, value: &[u8]) {
         Closed::Done(used) => {
             print::text(b": ");
             let n = saturating_sub(used, size);
-            print::number(n);
+            io::print_decimal(STDOUT_FILENO, n as u64);
             print::text(b" bytes, ");
             print::front(value, n);
             print::text(b"\n");

@@ -12,6 +12,7 @@ use builder::new;
 use builder::new_list;
 use builder::new_object;
 use builder::rollback;
+use libc::STDOUT_FILENO;
 use semantics::Builder;
 use value::variant::Variant;
 use value::variant::VariantBytes;
@@ -249,7 +250,7 @@ fn after(called: Called) -> Builder {
 
 fn refused(number: u8) {
     print::text(b"refused ");
-    print::number(number as usize);
+    io::print_decimal(STDOUT_FILENO, number as u64);
     print::text(b"\n");
 }
 
@@ -259,7 +260,7 @@ fn line(case: usize, b: Builder, value: &[u8], text: &[u8], ends: &[usize], entr
     let answer = finished.answer;
     match answer {
         FinishAnswer::Written(n) => {
-            print::number(case);
+            io::print_decimal(STDOUT_FILENO, case as u64);
             print::text(b" ");
             print::hex(value, finished.builder.counts.value);
             print::text(b" ");

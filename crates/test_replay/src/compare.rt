@@ -1,5 +1,8 @@
 // What was expected against what came, and the counts.
 use crate::parse::word;
+use libc::STDOUT_FILENO;
+use metadata::metadata_size;
+use metadata::num_field_names;
 use semantics::Counts;
 
 // The script at hand and its call, the calls and differences so far, and whether the input was not as it must be.
@@ -51,8 +54,13 @@ pub fn answered(t: Tally, expected: u8, got: u8) -> Tally {
 pub fn used(t: Tally, c: Counts, expected: &[u8]) -> Tally {
     let m = c.dictionary;
     let a = number(t, b"used value bytes", expect(expected, 0), c.value);
-    let b = number(a, b"used names", expect(expected, 8), m.names);
-    let d = number(b, b"used name bytes", expect(expected, 16), m.text);
+    let b = number(a, b"used names", expect(expected, 8), num_field_names(m));
+    let d = number(
+        b,
+        b"used name bytes",
+        expect(expected, 16),
+        metadata_size(m),
+    );
     let e = number(d, b"used entries", expect(expected, 24), c.entries);
     number(e, b"open containers", expect(expected, 32), c.depth)
 }
@@ -68,9 +76,9 @@ fn number(t: Tally, what: &[u8], expected: usize, got: usize) -> Tally {
     place(t);
     print::text(what);
     print::text(b" expected ");
-    print::number(expected);
+    io::print_decimal(STDOUT_FILENO, expected as u64);
     print::text(b", got ");
-    print::number(got);
+    io::print_decimal(STDOUT_FILENO, got as u64);
     print::text(b"\n");
     different(t)
 }
@@ -116,9 +124,9 @@ fn different(t: Tally) -> Tally {
 
 fn place(t: Tally) {
     print::text(b"script ");
-    print::number(t.script);
+    io::print_decimal(STDOUT_FILENO, t.script as u64);
     print::text(b", call ");
-    print::number(t.call);
+    io::print_decimal(STDOUT_FILENO, t.call as u64);
     print::text(b": ");
 }
 

@@ -24,6 +24,7 @@ use input::fields;
 use input::read_count;
 use input::read_header;
 use input::read_start;
+use libc::STDOUT_FILENO;
 use parse::call_of;
 use parse::uuid;
 use poke::altered;
@@ -42,11 +43,11 @@ fn main() {
     let mut entries = [99usize; 256];
     let n = read_count();
     let t = scripts(n, &mut value, &mut text, &mut ends, &mut entries);
-    print::number(t.script);
+    io::print_decimal(STDOUT_FILENO, t.script as u64);
     print::text(b" scripts, ");
-    print::number(t.calls);
+    io::print_decimal(STDOUT_FILENO, t.calls as u64);
     print::text(b" calls, ");
-    print::number(t.differences);
+    io::print_decimal(STDOUT_FILENO, t.differences as u64);
     print::text(b" differences\n");
 }
 

@@ -4,6 +4,10 @@ use crate::parse::word;
 use container::Entry;
 use container::put_entry;
 use encoding::slices::write_slice;
+use metadata::from_parts;
+use metadata::is_sorted;
+use metadata::metadata_size;
+use metadata::num_field_names;
 use semantics::Builder;
 use semantics::Container;
 use semantics::Counts;
@@ -31,18 +35,17 @@ pub fn altered(b: Builder, h: Header, operand: &[u8]) -> Builder {
 
 fn counts(before: Counts, which: u8, n: usize) -> Counts {
     let mut c = before;
-    let mut m = c.dictionary;
+    let m = c.dictionary;
     match which {
         0 => c.value = n,
-        1 => m.names = n,
-        2 => m.text = n,
+        1 => c.dictionary = from_parts(n, metadata_size(m), is_sorted(m)),
+        2 => c.dictionary = from_parts(num_field_names(m), n, is_sorted(m)),
         3 => c.entries = n,
         4 => c.depth = n,
         5 => c.unique = n == 1,
-        6 => m.sorted = n == 1,
+        6 => c.dictionary = from_parts(num_field_names(m), metadata_size(m), n == 1),
         _ => c.finished = n == 1,
     }
-    c.dictionary = m;
     c
 }
 

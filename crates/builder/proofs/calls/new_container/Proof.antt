@@ -1,5 +1,4 @@
 use borrow.Author.Needs.{needs}
-use native.Mathlib.Omega.{arith}
 use Rattle.semantics.specs.Record.{storageOf}
 use Rattle.refusals.specs.Decide.{nameOf}
 use Rattle.builder.proofs.CallLaws.{does-refused, does-opened, opened-deep}
@@ -13,26 +12,19 @@ returns c =
     let a = v .before .before .before .before .before .before .args in
     does-refused (a .b) (storageOf (a .value .now) (a .text .now) (a .ends .now) (a .entries .now)) (nameOf (a .named) (a .name .now)) (a .object) (v .view-of .ensures) (r .open-over .ensures) (c .before .if1 .taken) (c .answer-of .ensures)
 
-mul-cs : tie.Need-mul-cs
-mul-cs c =
-    let r = c .before .before .before .before .before .before .before .before .before .before in
+called-with-requires : tie.Need-called-with-requires
+called-with-requires c κs =
+    let r = c .before .before .before .before .before .before .before .before .before in
     let v = r .before .before .before .before in
     let a = v .before .before .before .before .before .before .args in
-    omega (arith, opened-deep (a .b) (storageOf (a .value .now) (a .text .now) (a .ends .now) (a .entries .now)) (nameOf (a .named) (a .name .now)) (a .object) (v .view-of .ensures) (r .open-over .ensures) (c .before .before .before .if1 .left))
-
-array-set-from-cs : tie.Need-array-set-from-cs
-array-set-from-cs c =
-    let r = c .before .before .before .before .before .before .before .before .before .before in
-    let v = r .before .before .before .before in
-    let a = v .before .before .before .before .before .before .args in
-    opened-deep (a .b) (storageOf (a .value .now) (a .text .now) (a .ends .now) (a .entries .now)) (nameOf (a .named) (a .name .now)) (a .object) (v .view-of .ensures) (r .open-over .ensures) (c .before .before .before .if1 .left)
+    opened-deep (a .b) (storageOf (a .value .now) (a .text .now) (a .ends .now) (a .entries .now)) (nameOf (a .named) (a .name .now)) (a .object) (v .view-of .ensures) (r .open-over .ensures) (c .before .before .if1 .left)
 
 returns-2 : tie.Need-returns-2
 returns-2 c =
-    let r = c .before .before .before .before .before .before .before .before .before .before .before in
+    let r = c .before .before .before .before .before .before .before .before .before .before in
     let v = r .before .before .before .before in
     let a = v .before .before .before .before .before .before .args in
-    does-opened (a .b) (storageOf (a .value .now) (a .text .now) (a .ends .now) (a .entries .now)) (nameOf (a .named) (a .name .now)) (a .object) (v .view-of .ensures) (r .open-over .ensures) (c .before .before .before .before .if1 .left) (c .answer-of2 .ensures)
+    does-opened (a .b) (storageOf (a .value .now) (a .text .now) (a .ends .now) (a .entries .now)) (nameOf (a .named) (a .name .now)) (a .object) (v .view-of .ensures) (r .open-over .ensures) (c .before .before .before .if1 .left) (c .called-with .ensures)
 
 pub new-container-spec : {M : Type 1} → statement M
 new-container-spec =
@@ -45,9 +37,7 @@ new-container-spec =
     (λ c. search needs)
     (λ c. search needs)
     returns
-    mul-cs
-    array-set-from-cs
-    (λ c κs. search needs)
+    called-with-requires
     (λ c. search needs)
     (λ c. search needs)
     (λ c. search needs)

@@ -3,7 +3,7 @@ use borrow.Author.Needs.{needs}
 use mathlib.Core.Path.{refl, _∙_}
 use native.Mathlib.Omega.{arith}
 use Rattle.semantics.specs.Record.{rising}
-use Rattle.builder.proofs.ViewLaws.{Rises, rises-again, rises-end, chain-far, chain-none, chain-some}
+use Rattle.semantics.proofs.ViewLaws.{Rises, rises-again, rises-end, chain-far, chain-none, chain-some}
 use Rattle.builder.proofs.view.chain_of.Statement.{statement}
 use Rattle.builder.proofs.view.chain_of.Tie as tie
 

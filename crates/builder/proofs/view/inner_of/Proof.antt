@@ -1,4 +1,4 @@
-use Rattle.builder.proofs.ViewLaws.{inner-none, inner-far, inner-at}
+use Rattle.semantics.proofs.ViewLaws.{inner-none, inner-far, inner-at}
 use native.Mathlib.Omega.{arith}
 use mathlib.Core.Path.{_∙_}
 use lib.ListN.{length-map}

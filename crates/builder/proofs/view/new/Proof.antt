@@ -5,7 +5,7 @@ use Rattle.builder.proofs.view.new.Tie as tie
 
 returns : tie.Need-returns
 unfolding freshOf
-returns c = rw (c .before .no-container .ensures, c .new .ensures)
+returns c = rw (c .before .no-container .ensures, c .fresh-counts .ensures)
 
 pub new-spec : {M : Type 1} → statement M
 new-spec = tie.close (tie.spec (λ c κs. search needs) (λ c κs. search needs) returns)

@@ -1,4 +1,4 @@
-use Rattle.builder.proofs.ViewLaws.{parent-none, parent-far, parent-at}
+use Rattle.semantics.proofs.ViewLaws.{parent-none, parent-far, parent-at}
 use native.Mathlib.Omega.{arith}
 use mathlib.Core.Path.{_∙_}
 use lib.ListN.{length-map}

@@ -2,7 +2,7 @@
 use mathlib.Core.Path.{refl, _∙_}
 use native.Mathlib.Omega.{arith}
 use Rattle.semantics.specs.Record.{rising}
-use Rattle.builder.proofs.ViewLaws.{Rises, rises-again, rises-end, chain-far, chain-none, chain-some}
+use Rattle.semantics.proofs.ViewLaws.{Rises, rises-again, rises-end, chain-far, chain-none, chain-some}
 use Rattle.ffi.specs.Words.{containersOf}
 use Rattle.ffi.proofs.words.chain_of.Statement.{statement}
 use Rattle.ffi.proofs.words.chain_of.Tie as tie

@@ -5,7 +5,9 @@ use Rattle.ffi.proofs.words.counts_of.Tie as tie
 
 returns : tie.Need-returns
 unfolding countsOf
-returns c = rw (c .before .before .before .before .before .before .before .flag .ensures, c .before .before .flag2 .ensures, c .flag3 .ensures)
+returns c =
+    let m = c .before .before .before .before .before .before .before in
+    rw (m .from-parts .ensures, m .before .flag .ensures, c .before .before .flag2 .ensures, c .flag3 .ensures)
 
 pub counts-of-spec : {M : Type 1} → statement M
 counts-of-spec =
@@ -14,6 +16,7 @@ counts-of-spec =
     (λ c. search needs)
     (λ c. search needs)
     (λ c. search needs)
+    (λ c κs. search needs)
     (λ c κs. search needs)
     (λ c. search needs)
     (λ c. search needs)

@@ -1,4 +1,4 @@
-use Rattle.builder.proofs.ViewLaws.{inner-none, inner-at}
+use Rattle.semantics.proofs.ViewLaws.{inner-none, inner-at}
 use Rattle.ffi.specs.Words.{containersOf}
 use mathlib.Core.Path.{_∙_}
 use native.Mathlib.Omega.{arith}

@@ -1,4 +1,4 @@
-use Rattle.builder.proofs.ViewLaws.{parent-none, parent-at}
+use Rattle.semantics.proofs.ViewLaws.{parent-none, parent-at}
 use Rattle.ffi.specs.Words.{containersOf}
 use mathlib.Core.Path.{_∙_}
 use native.Mathlib.Omega.{arith}

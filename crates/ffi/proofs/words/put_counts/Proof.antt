@@ -6,9 +6,12 @@ use Rattle.ffi.proofs.words.put_counts.Tie as tie
 
 returns : tie.Need-returns
 returns c =
-    let a = c .before .before .before .before .before .before .args in
-    let l = c .before .before .before .before .whole .ensures in
-    rw (c .before .before .word .ensures, c .before .word2 .ensures, c .word3 .ensures) (put-counts (a .words .now) (a .c) (omega arith))
+    let w = c .before .before in
+    let t = w .before .before in
+    let l = t .before .before .before .whole .ensures in
+    let a = t .before .before .before .before .before .args in
+    rw (t .before .num-field-names .ensures, t .metadata-size .ensures, w .word .ensures, w .before .is-sorted .ensures, c .before .word2 .ensures, c .word3 .ensures)
+    (put-counts (a .words .now) (a .c) (omega arith))
 
 pub put-counts-spec : {M : Type 1} → statement M
 put-counts-spec =
@@ -18,8 +21,11 @@ put-counts-spec =
     (λ c. search needs)
     (λ c. search needs)
     (λ c. search needs)
+    (λ c κs. search needs)
     (λ c. search needs)
+    (λ c κs. search needs)
     (λ c. search needs)
+    (λ c κs. search needs)
     (λ c κs. search needs)
     (λ c. search needs)
     (λ c κs. search needs)

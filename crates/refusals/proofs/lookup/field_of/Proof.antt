@@ -13,9 +13,10 @@ returns-2 c =
     let o = k .before .before .before .before .before in
     let s = o .before in
     let z = s .before in
-    let t = z .before in
+    let f = z .before in
+    let t = f .before in
     let i = t .before .before .before .before in
-    sees-named _ _ (i .if1 .left) (i .before .before .before .before .before .before .pre) (t .look-up .ensures) (z .saturating-sub .ensures) (s .search-entries .ensures) (o .is-open .ensures) (k .kept .ensures) (c .one-if .ensures)
+    sees-named _ _ (i .if1 .left) (i .before .before .before .before .before .before .pre) (t .look-up .ensures) (z .saturating-sub .ensures) (rw (f .num-field-names .ensures) at (s .search-entries .ensures)) (o .is-open .ensures) (k .kept .ensures) (c .one-if .ensures)
 
 pub field-of-spec : {M : Type 1} → statement M
 field-of-spec =
@@ -23,6 +24,7 @@ field-of-spec =
     (tie.spec
     (λ c κs. search needs)
     returns
+    (λ c κs. search needs)
     (λ c κs. search needs)
     (λ c κs. search needs)
     (λ c κs. search needs)

@@ -12,9 +12,9 @@ returns-2 c =
     let i = c .before .before .before .before in
     let o = i .before in
     let s = o .before in
-    let b = s .before .before .before .before .before in
+    let b = s .before .before .before .before .before .before in
     let e = rw (b .before .broken .ensures) at (b .if1 .left) in
-    let q = rw (s .before .saturating-sub .ensures) at (s .search-entries .ensures) in
+    let q = rw (s .before .saturating-sub .ensures, s .before .before .num-field-names .ensures) at (s .search-entries .ensures) in
     closes-by _ _ (s .search-entries .result) e q
     (rw (c .row3 .ensures, c .before .row2 .ensures, c .before .before .row .ensures, i .intact .ensures, o .is-open .ensures) (close-rows _ _ (s .search-entries .result) e q))
 
@@ -24,6 +24,7 @@ close-number-spec =
     (tie.spec
     (λ c κs. search needs)
     returns
+    (λ c κs. search needs)
     (λ c κs. search needs)
     (λ c κs. search needs)
     (λ c κs. search needs)

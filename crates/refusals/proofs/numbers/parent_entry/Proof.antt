@@ -8,7 +8,7 @@ returns : tie.Need-returns
 returns c value text ends =
     let s = c .before .before .before in
     let z = s .before .before .before in
-    parent-new _ _ (z .before .before .before .before .before .pre) _ (s .before .enum-told .given .1) (rw (z .saturating-sub .ensures) at (s .search-entries .ensures))
+    parent-new _ _ (z .before .before .before .before .before .before .pre) _ (s .before .enum-told .given .1) (rw (z .saturating-sub .ensures, z .before .num-field-names .ensures) at (s .search-entries .ensures))
 
 returns-2 : tie.Need-returns-2
 returns-2 c value text ends =
@@ -16,12 +16,13 @@ returns-2 c value text ends =
     let e = s .before .before in
     let z = e .before .before in
     rw (z .saturating-sub .ensures)
-    (parent-replaced _ _ (z .before .before .before .before .before .pre) _ _ _ (e .entry .given .1) (rw (z .saturating-sub .ensures) at (s .search-entries2 .ensures)))
+    (parent-replaced _ _ (z .before .before .before .before .before .before .pre) _ _ _ (e .entry .given .1) (rw (z .saturating-sub .ensures, z .before .num-field-names .ensures) at (s .search-entries2 .ensures)))
 
 pub parent-entry-spec : {M : Type 1} → statement M
 parent-entry-spec =
     tie.close
     (tie.spec
+    (λ c κs. search needs)
     (λ c κs. search needs)
     (λ c. search needs)
     (λ c κs. search needs)

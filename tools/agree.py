@@ -1,11 +1,12 @@
 #!/usr/bin/env python3
 """Holds `step` (crates/semantics/specs) against the Python model of document 01, by computation.
 
-    agree.py [--seed N] [--runs N] [--steps N] [--model FOLDER] --out CRATE     writes the crate `agree`
-    agree.py .. --check REPO                                                    checks it in a copy of REPO
+    agree.py [--seed N] [--runs N] [--steps N] [--with SET] [--model FOLDER] --out CRATE     writes the crate `agree`
+    agree.py .. --check REPO                                                                 checks it in a copy of REPO
 
-The model is tools/model, or that of another FOLDER. The unit of comparison is one step: a whole state
-before, a call, its number, the whole state after, and of finish the output. Steps come from
+The model is tools/model, or that of another FOLDER, and answers by the requests of document 02 in SET, else by those that
+have landed (landed.py). The unit of comparison is one step: a whole state before, a call, its number, the whole state after,
+and of finish the output. Steps come from
 
 - random runs from a fresh builder, in half of them with pokes between the calls;
 - for each step of a run, steps one off from it: the same state and call but for one number one
@@ -31,6 +32,8 @@ import sys
 import tempfile
 import time
 
+from landed import LANDED
+
 KINDS_OF_CALL = ("register", "append", "open", "close", "rollback", "unique", "finish")
 NAMES = [b"a", b"b", b"c", b"ab", b"", b"\xc3\xa9", b"z", b"a", b"b", b"abc"]
 BAD_NAMES = [b"\xff", b"\xc3", b"a\x80", b"\xed\xa0\x80", b"\xe0\x9f\xbf", b"\xf4\x90\x80\x80", b"\xc1\xbf"]
@@ -44,7 +47,7 @@ def twin(b):
     r, s = copy.copy(b.r), copy.copy(b.s)
     r.containers = [copy.copy(c) if i < b.r.open else c for i, c in enumerate(r.containers)]
     s.value, s.namebytes, s.nameends, s.entries = s.value[:], s.namebytes[:], s.nameends[:], s.entries[:]
-    return type(b)(r, s)
+    return type(b)(r, s, b.on)
 
 
 # ---------------------------------------------------------------- a step
@@ -207,7 +210,7 @@ def random_run(model, rng, number):
     ample = big < 0.35
     if ample:
         settings.update(unique=int(rng.random() < 0.2), value=60, namebytes=8, names=5, entries=20)
-    b = model.fresh(settings)
+    b = model.fresh(settings, model.on)
     for c in b.r.containers:
         c.value = c.names = c.namebytes = c.entries = rng.randrange(3)
     if rng.random() < 0.5:
@@ -334,7 +337,7 @@ def later(a, b):
 def written(model):
     """States and calls at the edges that random runs don't come to."""
     def builder(value=40, namebytes=8, names=8, entries=12, fill=0):
-        return model.fresh({"unique": 0, "value": value, "namebytes": namebytes, "names": names, "entries": entries, "fill": fill})
+        return model.fresh({"unique": 0, "value": value, "namebytes": namebytes, "names": names, "entries": entries, "fill": fill}, model.on)
 
     def after(b, *calls):
         for c in calls:
@@ -448,7 +451,7 @@ def written(model):
 def tight(model):
     """States in which all that number 1 asks just holds: all their one-off steps are taken, for every call."""
     def base(kinds, entry, marks, fields, ends, used, room):
-        b = model.fresh({"unique": 0, "value": room[0], "namebytes": room[2], "names": room[1], "entries": 2 * room[3], "fill": 3})
+        b = model.fresh({"unique": 0, "value": room[0], "namebytes": room[2], "names": room[1], "entries": 2 * room[3], "fill": 3}, model.on)
         for i, kind in enumerate(kinds):
             value, names, text, entries = marks[i]
             b.r.containers[i] = model.Container(value=value, names=names, namebytes=text, entries=entries, kind=kind,
@@ -706,7 +709,7 @@ use Rattle.agree.specs.Compare.{Check, box, state, leaves, refuses, alik
 UNFOLDING = ("width le les number twos whole table follow rest utf8 write shift scalarBytes cuts namesOf risen intact same place below "
              "joined endsFrom laidOut dictionary marked listHeaderAt listHeader objectHeaderAt largest objectHeader entriesOf putEntries "
              "seek misplaced insert sort fronted overUsed rising chained unchained fallenEnds misplacedInner misplacedParent damagedParent "
-             "header first numberOf registered appended opened newContainer entriesClosed closed rolledBack finished dictionaryOf after step steps.marked "
+             "header first numberOf registered appended opened newContainer entriesClosed closed rolledBack finished dictionaryOf after step steps.withUnique "
              "alike alikeParents alikeContainers begins alikeCounts alikeStorage alikeStates agrees faults")
 
 
@@ -809,7 +812,7 @@ def check(repo, modules):
         with open(os.path.join(repo, "crates.txt")) as f:
             crates = f.read()
         with open(os.path.join(copy_of, "crates.txt"), "w") as f:
-            f.write(crates + "agree: run container metadata value encoding\n")
+            f.write(crates + "agree: semantics container metadata value encoding\n")
         bad = 0
         for i, (at, steps) in enumerate(modules):
             folder = os.path.join(copy_of, "crates", "agree")
@@ -839,6 +842,7 @@ def check(repo, modules):
 def main():
     p = argparse.ArgumentParser(description=__doc__, formatter_class=argparse.RawDescriptionHelpFormatter)
     p.add_argument("--model", default=os.path.join(os.path.dirname(os.path.abspath(__file__)), "model"), metavar="FOLDER")
+    p.add_argument("--with", dest="wanted", default=LANDED, metavar="SET")
     p.add_argument("--seed", type=int, default=1)
     p.add_argument("--runs", type=int, default=400)
     p.add_argument("--share", type=int, default=1, help="one-off steps for each step of a run")
@@ -851,6 +855,7 @@ def main():
     sys.dont_write_bytecode = True
     sys.path.insert(0, a.model)
     import model
+    model.on = model.requests(a.wanted)
     steps, missed = gather(model, a.seed, a.runs, a.share)
     met = collections.Counter(s.number for s in steps)
     kinds = collections.Counter(s.call[0] for s in steps)

@@ -6,13 +6,15 @@
 
 WRITER and ORACLE are programs that answer a script on stdin; the model is tools/model, or that of another FOLDER, and
 its README has the grammar. N counts the calls held against ORACLE, or without it against the model. SET names the
-requests of document 02 by which the model answers, as its --with does; WRITER answers by what has landed.
+requests of document 02 by which the model answers, as its --with does; without it they are those that have landed
+(landed.py), by which WRITER answers, too.
 
 Every answer of WRITER must be the model's. ORACLE gets the same runs but for altered storage, without the calls
 that are refused with a number other than 6, 10 and 15 (a refusal changes nothing; so none of 17 and above) and
 without dumps; each of its answers must be WRITER's. Left out is a run with an accepted scalar that the Rust's types
 don't hold, a name registered inside a container, a floor other than 1, a mark set or returned to.
---sample writes scripts.txt and answers.txt: short runs of calls that the Rust answers, and its answers.
+--sample writes scripts.txt and answers.txt: short runs of calls that the Rust answers, and its answers; the model
+answers there by document 01 alone.
 """
 import argparse
 import collections
@@ -22,6 +24,7 @@ import sys
 import time
 
 import scripts
+from landed import LANDED
 
 CALLS = ("register", "append", "open", "close", "rollback", "unique", "mark", "return", "finish")
 OPENED = {"open": 1, "close": -1, "rollback": -1}
@@ -128,10 +131,13 @@ class Counts:
     def __init__(self):
         self.runs, self.finished, self.model, self.oracle = (collections.Counter() for _ in range(4))
         self.left_out, self.finished_oracle, self.verbs, self.answers = (collections.Counter() for _ in range(4))
+        self.inner_names = self.inner_runs = 0
 
     def note(self, run, places):
         kind = run.kind
         self.runs[kind] += 1
+        self.inner_names += run.inner_names
+        self.inner_runs += run.inner_names > 0
         for call, answer in zip(run.calls, run.answers):
             if call[0] in CALLS:
                 self.model[kind] += 1
@@ -153,6 +159,7 @@ class Counts:
         print("calls: " + ", ".join(f"{verb} {n}" for verb, n in sorted(self.verbs.items())))
         order = sorted(self.answers.items(), key=lambda p: int(p[0].split()[-1]) if " " in p[0] else 0)
         print("answers: " + ", ".join(f"{answer} {n}" for answer, n in order))
+        print(f"names registered with containers open: {self.inner_names}, in {self.inner_runs} runs")
 
 
 def cut(answers, lengths):
@@ -258,14 +265,15 @@ def main():
     parser.add_argument("--seed", default="1")
     parser.add_argument("--calls", type=int, default=100_000)
     parser.add_argument("--kind", choices=list(scripts.MAKERS))
-    parser.add_argument("--with", dest="wanted", default="", metavar="SET")
+    parser.add_argument("--with", dest="wanted", metavar="SET")
     parser.add_argument("--sample", metavar="FOLDER")
     parser.add_argument("--model", default=MODEL, metavar="FOLDER")
     args = parser.parse_args()
     if len(args.programs) > (1 if args.sample else 2):
         parser.error("WRITER [ORACLE], or with --sample ORACLE; the model's folder is named by --model")
     args.writer, args.oracle = [None, *args.programs] if args.sample else [*args.programs, None][:2]
-    model = load(args.model, args.wanted)
+    wanted = ("" if args.sample else LANDED) if args.wanted is None else args.wanted
+    model = load(args.model, wanted)
     return sample(model, args) if args.sample else compare(model, args)
 
 

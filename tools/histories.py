@@ -6,7 +6,7 @@
 The model is tools/model, or that of another FOLDER. The runs are those of compare.py, made on model.py, but for `altered`,
 which pokes. Of every call the history must foretell the answer, the refusal's number included; of a finished run the kept
 record must have the value and the dictionary that the model wrote, and the ledger the value's size. SET names the requests
-of document 02 in force, as the model's --with does; the runs have document 01's calls only. The status is 1 where something differs.
+of document 02 in force, as the model's --with does, else those that have landed (landed.py). The status is 1 where something differs.
 """
 import argparse
 import collections
@@ -14,6 +14,7 @@ import sys
 
 import compare
 import scripts
+from landed import LANDED
 
 
 def faults(history, model, run):
@@ -45,7 +46,7 @@ def main():
     parser.add_argument("--seed", default="1")
     parser.add_argument("--calls", type=int, default=100_000)
     parser.add_argument("--kind", choices=[kind for kind in scripts.MAKERS if kind != "altered"])
-    parser.add_argument("--with", dest="wanted", default="", metavar="SET")
+    parser.add_argument("--with", dest="wanted", default=LANDED, metavar="SET")
     parser.add_argument("--model", default=compare.MODEL, metavar="FOLDER")
     args = parser.parse_args()
     model = compare.load(args.model, args.wanted)

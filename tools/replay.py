@@ -3,7 +3,7 @@ computed here. In crates/test_replay/data are
 - scripts.txt and the real Rust's answers to them, answers.txt, both made by tools/compare.py --sample;
 - edges.txt, written by hand: each of document 01's numbers refused, and just not, some over a record or storage altered by pokes; and
   edges_answers.txt, the answers of a model of document 01, since the Rust has no such cases. --answers makes them again, by
-  tools/model or that of another FOLDER, with the landed requests named by --with.
+  tools/model or that of another FOLDER, with the requests of document 02 in SET, else with those that have landed (landed.py).
 
     python3 tools/replay.py [ROOT] [--answers [--with SET] [--model FOLDER]]
 
@@ -19,6 +19,8 @@ import argparse
 import os
 import subprocess
 import sys
+
+from landed import LANDED
 
 CALLS = ['', 'register', 'list', 'object', 'close', 'rollback', 'unique', 'bytes', 'uuid', 'scalar', 'finish', 'poke', 'dump']
 BYTES = ['binary', 'string', 'short', 'text']
@@ -133,7 +135,7 @@ def main():
     parser.add_argument('root', nargs='?', default='.', metavar='ROOT')
     parser.add_argument('--answers', action='store_true')
     parser.add_argument('--model', default=os.path.join(os.path.dirname(os.path.abspath(__file__)), 'model'), metavar='FOLDER')
-    parser.add_argument('--with', dest='requests', metavar='SET')
+    parser.add_argument('--with', dest='requests', default=LANDED, metavar='SET')
     args = parser.parse_args()
     folder = os.path.join(args.root, 'crates', 'test_replay')
     if args.answers:

@@ -96,13 +96,16 @@ class Run:
     """A script as it grows: lines, the calls they state and the model's answers.
 
     `wrong` is the chance of a misplaced or ill-formed call; in a `held` run the accepted scalars are
-    those that the Rust's types hold."""
+    those that the Rust's types hold. Under A1 names are registered with containers open in an `inside` run, and in
+    no other, since the Rust has no such call."""
 
-    def __init__(self, model, rng, held, pool=None, wrong=0.02, unique=None, **settings):
+    def __init__(self, model, rng, held, pool=None, wrong=0.02, unique=None, inside=False, **settings):
         self.model, self.rng, self.held, self.wrong = model, rng, held, wrong
+        self.inside = "A1" in model.on and (inside or rng.random() < 0.3)
         self.pool = pool or rng.choice([MIXED, MIXED[:3], [rng.randbytes(2).hex().encode() for _ in range(8)]])
         self.session, self.lines, self.calls, self.answers = model.Session(model.on), [], [], []
         self.peak = dict.fromkeys(("value", "namebytes", "names", "entries", "out"), 0)
+        self.inner_names = 0    # registered with containers open
         unique = rng.random() < 0.2 if unique is None else unique
         fill = rng.choice(FILLS)
         self.say(("new", {"unique": int(unique), **AMPLE, "fill": fill, **settings}))
@@ -117,6 +120,7 @@ class Run:
         r, p = self.record(), self.peak
         p["value"], p["names"] = max(p["value"], r.value_used), max(p["names"], r.names_used)
         p["namebytes"], p["entries"] = max(p["namebytes"], r.namebytes_used), max(p["entries"], 2 * r.entries_used)
+        self.inner_names += call[0] == "register" and answer == "ok" and r.open > 0
         if call[0] == "finish":
             p["out"] = max(p["out"], len(self.session.written))
         return answer
@@ -150,6 +154,9 @@ class Run:
     def any_name(self):
         return self.rng.choice(BAD_TEXTS) if self.chance(self.wrong) else self.rng.choice(self.pool)
 
+    def register(self):
+        return self.say(("register", self.any_name()))
+
     def append(self):
         return self.say(("append", self.name(), self.scalar()))
 
@@ -167,14 +174,17 @@ class Run:
         if self.chance(self.wrong):
             return self.anything()
         if r.open == 0 and r.value_used == 0 and not self.chance(0.05):
-            return self.open() if self.chance(0.9) else self.say(("register", self.any_name()))
+            return self.open() if self.chance(0.9) else self.register()
         if r.open == 0:
             return self.finish() if self.chance(0.4) else self.anything()
         if r.open == 1:
             weights = (weights[0], weights[1], 0.2, 0.4, weights[4])
         if self.inner() == "list":
             weights = (*weights[:4], 0)
-        verb = self.rng.choices(("append", "open", "close", "rollback", "unique"), weights)[0]
+        verbs = ("append", "open", "close", "rollback", "unique", "register")
+        verb = self.rng.choices(verbs, (*weights, 2 if self.inside else 0))[0]
+        if verb == "register":
+            return self.register()
         if verb in ("append", "open"):
             return self.append() if verb == "append" else self.open()
         return self.say((verb, self.chance(0.5)) if verb == "unique" else (verb,))
@@ -182,8 +192,10 @@ class Run:
     def anything(self):
         """Any call, whatever the state."""
         verb = self.rng.choice(("register", "append", "append", "open", "close", "rollback", "unique", "finish"))
+        if verb == "register" and "A1" in self.model.on and self.record().open and not self.inside:
+            verb = "append"
         if verb == "register":
-            return self.say((verb, self.any_name()))
+            return self.register()
         if verb in ("append", "open"):
             return self.append() if verb == "append" else self.open()
         if verb == "finish":
@@ -211,7 +223,7 @@ class Run:
 def plain(new, number, short):
     run = new()
     for _ in range(run.rng.randrange(3) if run.chance(0.3) else 0):
-        run.say(("register", run.any_name()))
+        run.register()
     if run.chance(0.15):
         run.append()
     for _ in range(run.rng.randrange(15 if short else 45)):
@@ -226,6 +238,8 @@ def descend(run, depth, siblings):
         if run.record().open < depth:
             if run.record().open and run.chance(siblings):
                 run.append()
+            if run.inside and run.chance(0.2):
+                run.register()
             run.open()
 
 
@@ -444,7 +458,7 @@ def altered(new, number, short):
     """Record and storage overwritten between the calls: against the model alone."""
     rng = new.rng
     run = new(value=rng.choice([60, 120, 400]), namebytes=rng.choice([8, 30]), names=rng.choice([4, 12]),
-              pool=MIXED[:5], entries=rng.choice([5, 12, 25]), wrong=0.06)
+              pool=MIXED[:5], entries=rng.choice([5, 12, 25]), wrong=0.06, inside=True)
     for _ in range(rng.randint(1, 3)):
         for _ in range(rng.randrange(9)):
             run.step()

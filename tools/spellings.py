@@ -1,9 +1,10 @@
 #!/usr/bin/env python3
 """Holds variant-script against the model of document 01 on scripts as people may type them, bad lines included.
 
-    spellings.py WRITER [--seed S] [--runs N] [--model FOLDER]
+    spellings.py WRITER [--seed S] [--runs N] [--with SET] [--model FOLDER]
 
-WRITER is variant-script; the model is tools/model, or that of another FOLDER. A run is one random script: signs,
+WRITER is variant-script; the model is tools/model, or that of another FOLDER, and answers by the requests of document 02
+in SET, else by those that have landed (landed.py). A run is one random script: signs,
 underscores and leading zeros in numbers, `0x`, capitals, COUNTxHEX, tabs, comments, line ends of three kinds, pokes
 of all fields, and now and then a line that is no call. Numbers of `new`, `finish` and pokes are those of the grammar,
 0 to 2^64 - 1. Every answer must be the model's; where the model cannot take a line, WRITER must stop there with
@@ -14,6 +15,8 @@ import os
 import random
 import subprocess
 import sys
+
+from landed import LANDED
 
 MODEL = os.path.join(os.path.dirname(os.path.abspath(__file__)), "model")
 LARGE = (63, 64, 65, 255, 256, 2**32 - 1, 2**32, 2**63, 2**64 - 1)
@@ -93,7 +96,7 @@ def first_line(rng):
 
 def made(rng, model, script):
     """A script's lines, the model's answers, and the number of the line that the model cannot take, if any."""
-    session, lines, answers = model.Session(), [], []
+    session, lines, answers = model.Session(model.on), [], []
     for at in range(1, rng.randrange(2, 40)):
         lines.append(line(rng, model, script) if at > 1 else first_line(rng))
         try:
@@ -118,11 +121,13 @@ def main():
     parser.add_argument("writer")
     parser.add_argument("--seed", default="1")
     parser.add_argument("--runs", type=int, default=20_000)
+    parser.add_argument("--with", dest="wanted", default=LANDED, metavar="SET")
     parser.add_argument("--model", default=MODEL, metavar="FOLDER")
     args = parser.parse_args()
     sys.path.insert(0, args.model)
     import model
     import script
+    model.on = model.requests(args.wanted)
     count = fell = differ = 0
     for run in range(args.runs):
         rng = random.Random(f"{args.seed}:{run}")

@@ -117,7 +117,8 @@ impl<'a> VariantBuilder<'a> {
         unsafe { sys::variant_new(&mut self.words, unique) }
     }
 
-    /// A name given beforehand, at the top level.
+    /// A name given beforehand, or while containers are open: a new one belongs to the innermost and goes when that one is
+    /// rolled back.
     pub fn add_field_name(&mut self, name: &[u8]) -> Result<(), Refusal> {
         call!(self.variant_add_field_name(name.as_ptr(), name.len()))
     }

@@ -67,7 +67,6 @@ fn order_of_calls() {
     refused(15, &mut b, |b| finish(b, 9));
     b.new_list(None).unwrap();
     refused(3, &mut b, |b| b.with_validate_unique_fields(true));
-    refused(4, &mut b, |b| b.add_field_name(b"a"));
     refused(4, &mut b, |b| finish(b, 9));
     refused(5, &mut b, |b| b.new_list(Some(b"a")));
     b.close().unwrap();

@@ -50,6 +50,21 @@ fn pokes() {
     assert_eq!(lines[4], "refused 1");
 }
 
+/// The kept scripts: the sample with the Rust's answers, the edges with the model's.
+#[test]
+fn kept_scripts() {
+    let data = concat!(env!("CARGO_MANIFEST_DIR"), "/../../crates/test_replay/data");
+    for (scripts, kept) in [("scripts.txt", "answers.txt"), ("edges.txt", "edges_answers.txt")] {
+        let (out, err, status) = run(&[&format!("{data}/{scripts}")], "");
+        assert_eq!((&err[..], status), ("", 0));
+        let kept = std::fs::read_to_string(format!("{data}/{kept}")).unwrap();
+        assert_eq!(out.lines().count(), kept.lines().count());
+        for (at, (answer, kept)) in out.lines().zip(kept.lines()).enumerate() {
+            assert_eq!(answer, kept, "answer {} of {scripts}", at + 1);
+        }
+    }
+}
+
 #[test]
 fn scan_listed() {
     let script = concat!(env!("CARGO_MANIFEST_DIR"), "/scan.script");

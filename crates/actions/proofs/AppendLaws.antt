@@ -25,7 +25,7 @@ use Rattle.actions.proofs.EnterLaws.{enter-clears}
 
 -- refused, by rows that are the append's: all is as it was
 pub append-refused : {v : View} {l : Storage} {nm : Option Name} (x : Scalars) (own : ℕ) {size : ℕ} {e : Entered} {text ends : List ℕ} → first (enterRows v l nm true false own size) ≡ numberOf v l (append nm x)
-    → EntersBy v l nm false size (first (enterRows v l nm true false own size)) e text ends → (e .number ≡ 0 → ⊥)
+    → EntersBy v l nm true false size (first (enterRows v l nm true false own size)) e text ends → (e .number ≡ 0 → ⊥)
     → Leaves v l (append nm x) (record { counts = e .counts; number = e .number }) (storageOf (l .value) text ends (l .entries))
 append-refused {v} {l} {nm} x own {size} rows a z =
     let n = a .number ∙ rows in
@@ -40,7 +40,7 @@ unfolding numberOf
 append-rows v l nm x o s = rw (o, s) (append-number v l nm (scalarRows x) (length (scalarBytes (scalarOf x))) (scalar-order x))
 
 module _ {v : View} {l : Storage} {nm : Option Name} (x : Scalars) {own size : ℕ} {e : Entered} {text ends : List ℕ} (o : own ≡ first (scalarRows x))
-    (s : size ≡ length (scalarBytes (scalarOf x))) (a : EntersBy v l nm false size (first (enterRows v l nm true false own size)) e text ends) where
+    (s : size ≡ length (scalarBytes (scalarOf x))) (a : EntersBy v l nm true false size (first (enterRows v l nm true false own size)) e text ends) where
   rows : first (enterRows v l nm true false own size) ≡ numberOf v l (append nm x)
   rows = append-rows v l nm x o s
 

@@ -21,10 +21,10 @@ use Rattle.semantics.specs.declared.View.{View}
 use Rattle.semantics.specs.declared.Counts.{Counts}
 use Rattle.semantics.specs.Record.{Storage, Call, isOpen, innerSize, uniqueNow}
 use Rattle.semantics.specs.Table.{numberOf, held, live, liveUnder, namesFull, entriesFull}
-use Rattle.semantics.specs.Step.{dictionaryWith, endsWith, entriesWith, parentWith, textWith, withCounts}
+use Rattle.semantics.specs.Step.{countWith, dictionaryWith, endsWith, entriesWith, parentWith, textWith, withCounts}
 use Rattle.refusals.specs.declared.Field.{Field}
 use Rattle.refusals.specs.declared.Decided.{Decided}
-use Rattle.refusals.specs.Decide.{Decides, enterRows, fieldOf, isNew, nameOf}
+use Rattle.refusals.specs.Decide.{Decides, enterRows, fieldOf, fullBy, isNew, liveInto, nameOf}
 use Rattle.refusals.proofs.RowLaws.{enter-late}
 use Rattle.refusals.proofs.ViewLaws.{both}
 use Rattle.actions.specs.declared.enter.Entered.{Entered}
@@ -70,13 +70,13 @@ named-by false e f r = named-none e r
 
 -- ---- the rows are clear
 
-pub record Clears (v : View) (l : Storage) (nm : Option Name) (opens : Bool) (size : ℕ) : Type 0 where
+pub record Clears (v : View) (l : Storage) (nm : Option Name) (into opens : Bool) (size : ℕ) : Type 0 where
   pub depth : opens ≡ true → v .counts .depth < 64
   pub names : namesFull v l nm ≡ false
-  pub entries : entriesFull v l nm ≡ false
+  pub entries : fullBy into v (liveInto into v l nm) (length (l .entries)) ≡ false
   pub room : fits (v .counts .value) size (length (l .value)) ≡ true
 
-pub enter-clears : (v : View) (l : Storage) (nm : Option Name) (into opens : Bool) (own size : ℕ) → first (enterRows v l nm into opens own size) ≡ 0 → Clears v l nm opens size
+pub enter-clears : (v : View) (l : Storage) (nm : Option Name) (into opens : Bool) (own size : ℕ) → first (enterRows v l nm into opens own size) ≡ 0 → Clears v l nm into opens size
 enter-clears v l nm into opens own size e =
     let c = enter-late v l nm into opens own size e in
     record {
@@ -99,42 +99,52 @@ live-open v l (some n) e = go (isOpen v) (live v l n) e
 fresh-room : (v : View) (l : Storage) (nm : Option Name) → entriesFull v l nm ≡ false → isOpen v ≡ true → liveUnder v l nm ≡ false → ltb (v .counts .entries) (roomFor (length (l .entries))) ≡ true
 fresh-room v l nm e p q = lt-ltb (v .counts .entries) (roomFor (length (l .entries))) (leb-false (roomFor (length (l .entries))) (v .counts .entries) (rw (p, q) at e))
 
-field-of : {v : View} {l : Storage} {nm : Option Name} {n : ℕ} {d : Decided} → Decides n v l nm d → d .number ≡ 0 → d .field ≡ fieldOf v l nm
+field-of : {into : Bool} {v : View} {l : Storage} {nm : Option Name} {n : ℕ} {d : Decided} → Decides n into v l nm d → d .number ≡ 0 → d .field ≡ fieldOf into v l nm
 field-of {n = n} a z = rw (a .field, eq-eqb n 0 (sym (a .number) ∙ z))
 
-module _ {v : View} {l : Storage} {nm : Option Name} (opens : Bool) (size : ℕ) {n : ℕ} {d : Decided} {u : Bool} (a : Decides n v l nm d) (m : u ≡ uniqueNow v) where
+module _ {into : Bool} {v : View} {l : Storage} {nm : Option Name} (opens : Bool) (size : ℕ) {n : ℕ} {d : Decided} {u : Bool} (a : Decides n into v l nm d) (m : u ≡ uniqueNow v) where
   pub entered-refused : (d .number ≡ 0 → ⊥)
-      → EntersBy v l nm opens size n (record { counts = v .counts; place = 0; id = 0; offset = 0; live = false; fresh = false; unique = u; number = d .number }) (l .text) (l .ends)
+      → EntersBy v l nm into opens size n (record { counts = v .counts; place = 0; id = 0; offset = 0; live = false; fresh = false; unique = u; number = d .number }) (l .text) (l .ends)
   entered-refused z =
       let z' = ne-eqb n 0 (λ p. z (a .number ∙ p)) in
       let no : n ≡ 0 → ⊥ = λ p. z (a .number ∙ p) in
       record { number = a .number; counts = rw z'; unique = m; textLeft = rw z'; endsLeft = rw z'; entries = λ p. absurd (no p); parent = λ p. absurd (no p) }
 
-  module _ {b : MetadataBuilder} {text ends : List ℕ} {at place : ℕ} {fresh : Bool} {c : Counts} (z : d .number ≡ 0) (h : Named v l nm b text ends) (full : entriesFull v l nm ≡ false) (s : at ≡ innerSize v)
-      (o : fresh ≡ (isOpen v && not (d .field .live))) (p : place ≡ cond (d .field .live) (d .field .place) (v .counts .entries))
+  module _ {b : MetadataBuilder} {text ends : List ℕ} {at place : ℕ} {fresh : Bool} {c : Counts} (z : d .number ≡ 0) (h : Named v l nm b text ends) (full : fullBy into v (liveInto into v l nm) (length (l .entries)) ≡ false) (s : at ≡ innerSize v)
+      (o : fresh ≡ ((into && isOpen v) && not (d .field .live))) (p : place ≡ cond (d .field .live) (d .field .place) (v .counts .entries))
       (k : c ≡ withCounts (v .counts) (v .counts .value + size) (oneMore fresh (v .counts .entries)) (oneMore opens (v .counts .depth)) b) where
     abbrev entered : Entered
     entered = record { counts = c; place = place; id = d .field .id; offset = at; live = d .field .live; fresh = fresh; unique = u; number = 0 }
 
-    -- its entry: a new one, a live name's, or none at the top level
-    puts : (entriesPut entered (l .entries) ≡ entriesWith v l nm) × (parentPut entered (l .entries) ≡ parentWith v l nm)
+    -- its entry: a new one, a live name's, or none at the top level and for a register
+    puts : (entriesPut entered (l .entries) ≡ cond into (entriesWith v l nm) (l .entries)) × (parentPut entered (l .entries) ≡ cond into (parentWith v l nm) New)
     unfolding fieldOf
-    puts = go (isOpen v) (liveUnder v l nm) refl refl
+    puts = go into (isOpen v) (liveUnder v l nm) refl refl refl
       where
-        go : (t b : Bool) → isOpen v ≡ t → liveUnder v l nm ≡ b → (entriesPut entered (l .entries) ≡ entriesWith v l nm) × (parentPut entered (l .entries) ≡ parentWith v l nm)
-        go true false e q = (rw (o, p, field-of a z, s, e, q, fresh-room v l nm full e q), rw (field-of a z, q))
-        go false true e q = absurd (true≢false (sym (live-open v l nm q) ∙ e))
-        go true true e q = (rw (p, field-of a z, s, e, q), rw (p, field-of a z, q))
-        go false false e q = (rw (o, field-of a z, e, q), rw (field-of a z, q))
+        go : (i t b : Bool) → into ≡ i → isOpen v ≡ t → liveUnder v l nm ≡ b
+            → (entriesPut entered (l .entries) ≡ cond into (entriesWith v l nm) (l .entries)) × (parentPut entered (l .entries) ≡ cond into (parentWith v l nm) New)
+        go false t b i e q = (rw (o, field-of a z, i), rw (field-of a z, i))
+        go true true false i e q = (rw (o, p, field-of a z, s, i, e, q, fresh-room v l nm (rw i at full) e q), rw (field-of a z, i, q))
+        go true false true i e q = absurd (true≢false (sym (live-open v l nm q) ∙ e))
+        go true true true i e q = (rw (p, field-of a z, s, i, e, q), rw (p, field-of a z, i, q))
+        go true false false i e q = (rw (o, field-of a z, i, e, q), rw (field-of a z, i, q))
 
-    pub entered-done : EntersBy v l nm opens size n entered text ends
+    -- one entry more, where a value is entered
+    counted-entries : oneMore fresh (v .counts .entries) ≡ cond into (countWith v l nm) (v .counts .entries)
     unfolding fieldOf
+    counted-entries = go into refl
+      where
+        go : (i : Bool) → into ≡ i → oneMore fresh (v .counts .entries) ≡ cond into (countWith v l nm) (v .counts .entries)
+        go true i = rw (o, field-of a z, i)
+        go false i = rw (o, field-of a z, i)
+
+    pub entered-done : EntersBy v l nm into opens size n entered text ends
     entered-done =
         let e : n ≡ 0 = sym (a .number) ∙ z in
         let z' = eq-eqb n 0 e in
         record {
           number = sym e;
-          counts = rw (z', k, o, field-of a z, h .dictionary);
+          counts = rw (z', k, counted-entries, h .dictionary);
           unique = m;
           textLeft = rw z' (h .textLeft);
           endsLeft = rw z' (h .endsLeft);
@@ -145,34 +155,34 @@ module _ {v : View} {l : Storage} {nm : Option Name} (opens : Bool) (size : ℕ)
 -- ---- as the code has it
 
 module _ (v : View) (l : Storage) (named : Bool) (name : Name) (into opens : Bool) (own size : ℕ) {d : Decided} {u : Bool}
-    (a : Decides (first (enterRows v l (nameOf named name) into opens own size)) v l (nameOf named name) d) (m : u ≡ uniqueNow v) (z : d .number ≡ 0) where
-  clear : Clears v l (nameOf named name) opens size
+    (a : Decides (first (enterRows v l (nameOf named name) into opens own size)) into v l (nameOf named name) d) (m : u ≡ uniqueNow v) (z : d .number ≡ 0) where
+  clear : Clears v l (nameOf named name) into opens size
   clear = enter-clears v l (nameOf named name) into opens own size (sym (a .number) ∙ z)
 
   -- of a fresh entry the name is not live
-  fresh-field : (isOpen v && not (d .field .live)) ≡ true → liveUnder v l (nameOf named name) ≡ false
+  fresh-field : ((into && isOpen v) && not (d .field .live)) ≡ true → liveInto into v l (nameOf named name) ≡ false
   unfolding fieldOf
-  fresh-field t = ap (λ (g : Field). g .live) (sym (field-of a z)) ∙ not-true (d .field .live) (both (isOpen v) (not (d .field .live)) t .1)
+  fresh-field t = ap (λ (g : Field). g .live) (sym (field-of a z)) ∙ not-true (d .field .live) (both (into && isOpen v) (not (d .field .live)) t .1)
 
   -- the counts then are numbers of the machine
   pub enters-bounds : length (l .entries) < 2 ^ 64
-      → (v .counts .value + size < 2 ^ 63) × (((isOpen v && not (d .field .live)) ≡ true → v .counts .entries < 2 ^ 63) × (opens ≡ true → v .counts .depth < 2 ^ 63))
+      → (v .counts .value + size < 2 ^ 63) × ((((into && isOpen v) && not (d .field .live)) ≡ true → v .counts .entries < 2 ^ 63) × (opens ≡ true → v .counts .depth < 2 ^ 63))
   enters-bounds g = (used, (entry, λ o. let h = clear .depth o in omega arith))
     where
       used : v .counts .value + size < 2 ^ 63
       used = let h = leb-true (v .counts .value + size) (counted (length (l .value))) (clear .room) in omega arith
 
-      entry : (isOpen v && not (d .field .live)) ≡ true → v .counts .entries < 2 ^ 63
+      entry : ((into && isOpen v) && not (d .field .live)) ≡ true → v .counts .entries < 2 ^ 63
       entry t =
-          let b = both (isOpen v) (not (d .field .live)) t in
+          let b = both (into && isOpen v) (not (d .field .live)) t in
           let h = leb-false (roomFor (length (l .entries))) (v .counts .entries) (rw (b .0, fresh-field t) at (clear .entries)) in
           omega arith
 
   pub enters : {b : MetadataBuilder} {text ends : List ℕ} {at place : ℕ} {c : Counts} → Registers (d .field .new) (v .counts .dictionary) (l .text) (l .ends) name b text ends → at ≡ innerSize v
-      → c ≡ withCounts (v .counts) (v .counts .value + size) (oneMore (isOpen v && not (d .field .live)) (v .counts .entries)) (oneMore opens (v .counts .depth)) b
+      → c ≡ withCounts (v .counts) (v .counts .value + size) (oneMore ((into && isOpen v) && not (d .field .live)) (v .counts .entries)) (oneMore opens (v .counts .depth)) b
       → place ≡ cond (d .field .live) (d .field .place) (v .counts .entries)
-      → EntersBy v l (nameOf named name) opens size (first (enterRows v l (nameOf named name) into opens own size))
-      (record { counts = c; place = place; id = d .field .id; offset = at; live = d .field .live; fresh = isOpen v && not (d .field .live); unique = u; number = 0 }) text ends
+      → EntersBy v l (nameOf named name) into opens size (first (enterRows v l (nameOf named name) into opens own size))
+      (record { counts = c; place = place; id = d .field .id; offset = at; live = d .field .live; fresh = (into && isOpen v) && not (d .field .live); unique = u; number = 0 }) text ends
   unfolding fieldOf
   enters r s k p = entered-done opens size a m z (named-by named (ap (λ (g : Field). g .new) (field-of a z)) (clear .names) r) (clear .entries) s refl p k
 

@@ -6,23 +6,22 @@ use mathlib.Core.Option.{Option, some}
 use Prim.Native.Nat.{ℕ, _+_}
 use native.Mathlib.Omega.{arith}
 use lib.Dec.{eqb}
-use borrow.Author.Tests.{eq-eqb, eqb-true, ne-eqb}
+use borrow.Author.Tests.{eq-eqb, ne-eqb}
 use Rattle.encoding.specs.Rows.{first}
 use Rattle.metadata.specs.Names.{Name}
 use Rattle.semantics.specs.declared.ParentEntry.{ParentEntry}
 use Rattle.semantics.specs.declared.Container.{Container}
 use Rattle.semantics.specs.declared.View.{View}
-use Rattle.semantics.specs.Record.{Storage, openIn, register, isOpen, storageOf}
+use Rattle.semantics.specs.Record.{Storage, openIn, register, storageOf}
 use Rattle.semantics.specs.Table.{numberOf}
 use Rattle.semantics.specs.Step.{newContainer, opened, registered}
-use Rattle.semantics.proofs.Demand1.{none-at}
 use Rattle.refusals.specs.Decide.{enterRows, nameOf}
 use Rattle.refusals.proofs.RowLaws.{open-number, register-number}
 use Rattle.actions.specs.declared.enter.Entered.{Entered}
 use Rattle.actions.specs.Actions.{EntersBy, Leaves, Opens, childOf, entriesPut, parentPut}
 
 -- ---- a name registered
-pub registers : {v : View} {l : Storage} (name : Name) {e : Entered} {text ends : List ℕ} → EntersBy v l (nameOf true name) false 0 (first (enterRows v l (nameOf true name) false false 0 0)) e text ends
+pub registers : {v : View} {l : Storage} (name : Name) {e : Entered} {text ends : List ℕ} → EntersBy v l (nameOf true name) false false 0 (first (enterRows v l (nameOf true name) false false 0 0)) e text ends
     → Leaves v l (register name) (record { counts = e .counts; number = e .number }) (storageOf (l .value) text ends (l .entries))
 unfolding registered nameOf
 registers {v} {l} name {e} {text} {ends} a = go (eqb (numberOf v l (register name)) 0) refl
@@ -32,13 +31,12 @@ registers {v} {l} name {e} {text} {ends} a = go (eqb (numberOf v l (register nam
 
     go : (t : Bool) → eqb (numberOf v l (register name)) 0 ≡ t → Leaves v l (register name) (record { counts = e .counts; number = e .number }) (storageOf (l .value) text ends (l .entries))
     go true z =
-        let o : isOpen v ≡ false = none-at v l (register name) (eqb-true (numberOf v l (register name)) 0 z) 4 in
         let w : v .counts .value + 0 ≡ v .counts .value = omega arith in
-        record { number = a .number ∙ n; counts = rw (a .counts, n, z, o, w); storage = rw (a .textLeft, a .endsLeft, n, z) }
+        record { number = a .number ∙ n; counts = rw (a .counts, n, z, w); storage = rw (a .textLeft, a .endsLeft, n, z) }
     go false z = record { number = a .number ∙ n; counts = rw (a .counts, n, z); storage = rw (a .textLeft, a .endsLeft, n, z) }
 
 -- ---- a container opened
-module _ {v : View} {l : Storage} {nm : Option Name} (object : Bool) {e : Entered} {text ends : List ℕ} (a : EntersBy v l nm true 0 (first (enterRows v l nm true true 0 0)) e text ends) where
+module _ {v : View} {l : Storage} {nm : Option Name} (object : Bool) {e : Entered} {text ends : List ℕ} (a : EntersBy v l nm true true 0 (first (enterRows v l nm true true 0 0)) e text ends) where
   rows : first (enterRows v l nm true true 0 0) ≡ numberOf v l (openIn nm object)
   rows = open-number v l nm object
 

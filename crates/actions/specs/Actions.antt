@@ -76,19 +76,21 @@ parentPut e es = cond (e .live) (Replaced (e .id) (entryAt es (e .place) .offset
 abbrev pub oneMore : Bool → ℕ → ℕ
 oneMore more n = cond more (n + 1) n
 
--- the counts with a name, an entry, a value of that size and, of an open, a container more
-abbrev pub countsWith : View → Storage → Option Name → Bool → ℕ → Counts
-countsWith v l nm opens size = withCounts (v .counts) (v .counts .value + size) (countWith v l nm) (oneMore opens (v .counts .depth)) (dictionaryWith v l nm)
+-- the counts with a name, an entry where a value is entered, a value of that size and, of an open, a container more
+abbrev pub countsWith : View → Storage → Option Name → Bool → Bool → ℕ → Counts
+countsWith v l nm into opens size =
+    withCounts (v .counts) (v .counts .value + size) (cond into (countWith v l nm) (v .counts .entries)) (oneMore opens (v .counts .depth)) (dictionaryWith v l nm)
 
--- what a register, an append or an open of number n leaves, up to the entry and the value's bytes
-pub record EntersBy (v : View) (l : Storage) (nm : Option Name) (opens : Bool) (size n : ℕ) (r : Entered) (text ends : List ℕ) : Type 0 where
+-- what a register, an append or an open of number n leaves, up to the entry and the value's bytes; a register, of which `into` is false,
+-- puts no entry
+pub record EntersBy (v : View) (l : Storage) (nm : Option Name) (into opens : Bool) (size n : ℕ) (r : Entered) (text ends : List ℕ) : Type 0 where
   pub number : r .number ≡ n
-  pub counts : r .counts ≡ cond (eqb n 0) (countsWith v l nm opens size) (v .counts)
+  pub counts : r .counts ≡ cond (eqb n 0) (countsWith v l nm into opens size) (v .counts)
   pub unique : r .unique ≡ uniqueNow v
   pub textLeft : text ≡ cond (eqb n 0) (textWith v l nm) (l .text)
   pub endsLeft : ends ≡ cond (eqb n 0) (endsWith v l nm) (l .ends)
-  pub entries : n ≡ 0 → entriesPut r (l .entries) ≡ entriesWith v l nm
-  pub parent : n ≡ 0 → parentPut r (l .entries) ≡ parentWith v l nm
+  pub entries : n ≡ 0 → entriesPut r (l .entries) ≡ cond into (entriesWith v l nm) (l .entries)
+  pub parent : n ≡ 0 → parentPut r (l .entries) ≡ cond into (parentWith v l nm) New
 
 -- the container that opens, of the counts before and what was entered
 abbrev pub childOf : Counts → Entered → ParentEntry → Bool → Container

@@ -47,7 +47,7 @@ pub fn enter_over(
     size: usize,
 ) -> Entered
     ensures { λ r. ⌜ EntersBy v (storageOf (now (value .entry)) (now (text .entry)) (now (ends .entry)) (now (entries .entry)))
-        (nameOf named (now (name .entry))) opens size
+        (nameOf named (now (name .entry))) into opens size
         (first
         (enterRows v (storageOf (now (value .entry)) (now (text .entry)) (now (ends .entry)) (now (entries .entry)))
         (nameOf named (now (name .entry))) into opens own size)) r (now (text .exit)) (now (ends .exit)) ⌝ }
@@ -83,7 +83,7 @@ pub fn enter_over(
     let m = c.dictionary;
     let next = with_name(m, text, ends, f.new, name);
     let at = saturating_sub(c.value, v.inner.value);
-    let fresh = (0 < c.depth) & !f.live;
+    let fresh = (into & (0 < c.depth)) & !f.live;
     let k = counts_with(c, size, fresh, opens, next);
     Entered {
         counts: k,

@@ -27,7 +27,7 @@ ghost use Rattle.semantics.specs.Step.{step};
 ghost use Rattle.refusals.specs.Decide.{nameOf};
 ghost use Rattle.builder.specs.Calls.{Does, Finishes, finishAnswer, state};
 
-// A name given beforehand, at the top level.
+// A name given beforehand, or while containers are open: a new one belongs to the innermost and goes when that one is rolled back.
 pub fn add_field_name(
     b: Builder,
     value: &[u8],

@@ -12,7 +12,7 @@ ghost use Rattle.refusals.specs.Decide.{nameOf};
 ghost use Rattle.builder.specs.Calls.{state};
 ghost use Rattle.builder_mut.specs.Calls.{DoesThin, FinishesThin};
 
-// A name given beforehand, at the top level.
+// A name given beforehand, or while containers are open: a new one belongs to the innermost and goes when that one is rolled back.
 pub fn add_field_name(
     b: &mut Builder,
     value: &[u8],

@@ -77,7 +77,7 @@ puts-entered : {ws us : List ℕ} {l : Storage} {nm : Option Name} {into opens :
 puts-entered w = record { number = refl; put = w .put; kept = w .kept }
 
 module _ (ws : List ℕ) (l : Storage) (nm : Option Name) (into opens : Bool) (own size : ℕ) {v : View} {e : Entered} {text ends : List ℕ} (p : v ≡ viewOf (builderOf ws))
-    (a : EntersBy v l nm opens size (first (enterRows v l nm into opens own size)) e text ends) where
+    (a : EntersBy v l nm into opens size (first (enterRows v l nm into opens own size)) e text ends) where
   pub enters-refused : (e .number ≡ 0 → ⊥) → EntersWords ws ws l nm into opens own size e text ends
   enters-refused z = record { enters = rw p at a; put = λ h. absurd (z h); kept = λ f. refl }
 

@@ -172,6 +172,6 @@ pub record Puts (r : Moved) (n : ℕ) (before after : List ℕ) : Type 0 where
 
 -- what a register, an append or an open enters, and the words then
 pub record EntersWords (before after : List ℕ) (l : Storage) (nm : Option Name) (into opens : Bool) (own size : ℕ) (r : Entered) (text ends : List ℕ) : Type 0 where
-  pub enters : EntersBy (viewOf (builderOf before)) l nm opens size (first (enterRows (viewOf (builderOf before)) l nm into opens own size)) r text ends
+  pub enters : EntersBy (viewOf (builderOf before)) l nm into opens size (first (enterRows (viewOf (builderOf before)) l nm into opens own size)) r text ends
   pub put : r .number ≡ 0 → PutsCounts before after (r .counts)
   pub kept : (r .number ≡ 0 → ⊥) → after ≡ before

@@ -65,7 +65,7 @@ pub extern "C" fn variant_new(words: &mut [usize; WORDS], unique: bool)
     put_counts(words, c);
 }
 
-// A name given beforehand, at the top level.
+// A name given beforehand, or while containers are open: a new one belongs to the innermost and goes when that one is rolled back.
 #[no_mangle]
 pub extern "C" fn variant_add_field_name(
     words: &mut [usize; WORDS],

@@ -33,22 +33,27 @@ told-by p q r e = ap toldBy r ∙ (e ∙ (ap told (sym q) ∙ p))
 
 sees-none : (into : Bool) (v : View) (l : Storage) → Sees into v l none (record { field = noField; number = 0 })
 unfolding fieldOf
-sees-none into v l = record { number = refl; live = λ p q. refl; field = λ p. refl }
+sees-none true v l = record { number = refl; live = λ p q. refl; field = λ p. refl }
+sees-none false v l = record { number = refl; live = λ p q. refl; field = λ p. refl }
 
 -- the name as it is known, with its entry
-abbrev liveBy : View → Known → Search → Bool
-liveBy v k s = isOpen v && ((eqb (k .number) 0 && not (k .new)) && ltb (s .place) (v .counts .entries))
+abbrev liveBy : Bool → View → Known → Search → Bool
+liveBy into v k s = (into && isOpen v) && ((eqb (k .number) 0 && not (k .new)) && ltb (s .place) (v .counts .entries))
 
 abbrev named : Bool → View → Known → Search → Named
 named into v k s =
     record {
-      field = record { id = k .id; place = cond (liveBy v k s) (s .place) 0; new = k .new; live = liveBy v k s };
+      field = record { id = k .id; place = cond (liveBy into v k s) (s .place) 0; new = k .new; live = liveBy into v k s };
       number = cond (eqb (k .number) 1 || ((into && isOpen v) && s .misplaced)) 1 (k .number);
     }
 
 not-zero : (b : Bool) (x : ℕ) → cond b 1 (suc x) ≡ 0 → ⊥
 not-zero true x e = omega arith
 not-zero false x e = omega arith
+
+none-into : (i o : Bool) → ((i && o) && false) ≡ (i && (o && false))
+none-into true o = refl
+none-into false o = refl
 
 module _ (into : Bool) (v : View) (l : Storage) (n : Name) (k : Known) (s : Search) (unbroken : brokenOf v l ≡ false)
     (e : toldBy k ≡ lookup (v .counts .dictionary) (l .text) (l .ends) n)
@@ -69,6 +74,15 @@ module _ (into : Bool) (v : View) (l : Storage) (n : Name) (k : Known) (s : Sear
 
   found : ltb (s .place) (v .counts .entries) ≡ ltb (seek (k .id) (innerEntries v l)) (length (innerEntries v l))
   found = rw at (found-before (l .entries) (v .inner .entries) (v .counts .entries) (k .id))
+
+  -- a name that is held
+  field-held : k .number ≡ 0 → k .new ≡ false → held v l n ≡ true → k .id ≡ idOf v l n → named into v k s .field ≡ fieldOf into v l (some n)
+  unfolding fieldOf
+  field-held nu ne h id = go into
+    where
+      go : (i : Bool) → named i v k s .field ≡ fieldOf i v l (some n)
+      go true = rw (nu, ne, found, at, h, id)
+      go false = rw (ne, h, id)
 
   -- a name that is not held gets the next id
   fresh-id : intact (v .counts .dictionary) (l .text) (l .ends) ≡ true → held v l n ≡ false → idOf v l n ≡ fieldNames (v .counts .dictionary)
@@ -97,16 +111,16 @@ module _ (into : Bool) (v : View) (l : Storage) (n : Name) (k : Known) (s : Sear
               let nu : k .number ≡ 0 = ap (λ (x : Told). x .number) z in
               let id : k .id ≡ idOf v l n = ap (λ (x : Told). x .id) z in
               let ne : k .new ≡ false = ap (λ (x : Told). x .new) z in
-              record { number = rw (nu, f, u, h, any-into); live = λ p p′. rw (nu, ne, found, h, id); field = λ p. rw (nu, ne, found, at, h, id) }
+              record { number = rw (nu, f, u, h, any-into); live = λ p p′. ap (λ (g : Field). g .live) (field-held nu ne h id); field = λ p. field-held nu ne h id }
           told-cases true false true i u h r f =
               let z = rw (i, u, h, r) at e in
               let nu : k .number ≡ 0 = ap (λ (x : Told). x .number) z in
               let id : k .id ≡ idOf v l n = ap (λ (x : Told). x .id) z ∙ sym (fresh-id i h) in
               let ne : k .new ≡ true = ap (λ (x : Told). x .new) z in
-              record { number = rw (nu, f, u, h, r, any-into); live = λ p p′. rw (nu, ne, h); field = λ p. rw (nu, ne, h, and-false, id) }
+              record { number = rw (nu, f, u, h, r, any-into); live = λ p p′. rw (nu, ne, h) (none-into into (isOpen v)); field = λ p. rw (nu, ne, h, none-into into (isOpen v), and-false (isOpen v), and-false into, id) }
           told-cases true false false i u h r f =
               let nu : k .number ≡ 12 = ap (λ (x : Told). x .number) (rw (i, u, h, r) at e) in
-              record { number = rw (nu, f, u, h, r, any-into); live = λ p p′. rw (nu, h); field = λ p. absurd (not-zero ((into && isOpen v) && s .misplaced) 11 (rw nu at p)) }
+              record { number = rw (nu, f, u, h, r, any-into); live = λ p p′. rw (nu, h) (none-into into (isOpen v)); field = λ p. absurd (not-zero ((into && isOpen v) && s .misplaced) 11 (rw nu at p)) }
 
 -- ---- as the code has it
 
@@ -119,11 +133,11 @@ sees-unnamed {into} {v} {l} named name e q = rw (not-true named e, q) (sees-none
 pub sees-named : {into : Bool} {v : View} {l : Storage} (named : Bool) (name : Name) {any : Bool} {k : Known} {s : Search} {size p n : ℕ} → not named ≡ false → brokenOf v l ≡ false
     → toldBy k ≡ lookup (v .counts .dictionary) (l .text) (l .ends) name → size ≡ innerSize v
     → Searches (l .entries) (v .inner .entries) (v .counts .entries) (v .inner .object) (fieldNames (v .counts .dictionary)) size (k .id) s → any ≡ isOpen v
-    → p ≡ cond (any && ((eqb (k .number) 0 && not (k .new)) && ltb (s .place) (v .counts .entries))) (s .place) 0
+    → p ≡ cond ((into && any) && ((eqb (k .number) 0 && not (k .new)) && ltb (s .place) (v .counts .entries))) (s .place) 0
     → n ≡ cond (eqb (k .number) 1 || ((into && any) && s .misplaced)) 1 (k .number)
     → Sees into v l (nameOf named name)
     (record {
-      field = record { id = k .id; place = p; new = k .new; live = any && ((eqb (k .number) 0 && not (k .new)) && ltb (s .place) (v .counts .entries)) };
+      field = record { id = k .id; place = p; new = k .new; live = (into && any) && ((eqb (k .number) 0 && not (k .new)) && ltb (s .place) (v .counts .entries)) };
       number = n;
     })
 unfolding nameOf

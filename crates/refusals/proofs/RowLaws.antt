@@ -13,45 +13,44 @@ use Rattle.encoding.proofs.RowsLaws.{first-none, first-own, clear-at}
 use Rattle.encoding.specs.Slices.{counted, fits}
 use Rattle.metadata.specs.Names.{Name}
 use Rattle.semantics.specs.declared.View.{View}
-use Rattle.semantics.specs.Record.{Storage, openIn, register, isOpen, uniqueNow}
+use Rattle.semantics.specs.Record.{Storage, openIn, register, uniqueNow}
 use Rattle.semantics.specs.Damage.{damaged, fallenEnds, misreadBy, overUsed}
-use Rattle.semantics.specs.Table.{frontRows, backRows, appendRows, numberOf, liveUnder, badName, live, misnamed, namesFull, secondTop, taken, tooLong}
+use Rattle.semantics.specs.Table.{frontRows, backRows, appendRows, numberOf, badName, live, misnamed, namesFull, secondTop, taken, tooLong}
 use Rattle.refusals.specs.declared.Field.{Field}
 use Rattle.refusals.specs.declared.Decided.{Decided}
 use Rattle.refusals.specs.declared.lookup.Named.{Named}
-use Rattle.refusals.specs.Decide.{nameOf, noField, Decides, brokenOf, misnamedBy, misreadInto, decidedOf, Sees, fullBy, rowsBy, enterBy, enterRows, lateRows}
+use Rattle.refusals.specs.Decide.{nameOf, liveInto, noField, Decides, brokenOf, misnamedBy, misreadInto, decidedOf, Sees, fullBy, rowsBy, enterBy, enterRows, lateRows}
 use Rattle.refusals.proofs.ViewLaws.{both, neither, past}
 pub use Rattle.refusals.proofs.ViewLaws.{broken-none, damaged-broken}
 
 -- ---- no test holds
 
 -- the tests, seen at once
-pub rows-none : (number own : ℕ) (finished inside wrong second taken deep full fit : Bool)
-    → ((eqb number 0 && eqb own 0) && not ((finished || (inside || (wrong || second))) || (taken || (deep || (full || not fit))))) ≡ true
-    → 0 ≡ rowsBy number own finished inside wrong second taken deep full fit
-rows-none number own finished inside wrong second taken deep full fit e =
+pub rows-none : (number own : ℕ) (finished wrong second taken deep full fit : Bool)
+    → ((eqb number 0 && eqb own 0) && not ((finished || (wrong || second)) || (taken || (deep || (full || not fit))))) ≡ true
+    → 0 ≡ rowsBy number own finished wrong second taken deep full fit
+rows-none number own finished wrong second taken deep full fit e =
     let k = both (eqb number 0 && eqb own 0) _ e in
     let z = both (eqb number 0) (eqb own 0) (k .0) in
-    go finished inside wrong second taken deep full fit (k .1) (eqb-true number 0 (z .0)) (eqb-true own 0 (z .1))
+    go finished wrong second taken deep full fit (k .1) (eqb-true number 0 (z .0)) (eqb-true own 0 (z .1))
   where
-    go : (a b c d t p u w : Bool) → not ((a || (b || (c || d))) || (t || (p || (u || not w)))) ≡ true → number ≡ 0 → own ≡ 0 → 0 ≡ rowsBy number own a b c d t p u w
-    go true b c d t p u w e n o = absurd (true≢false (sym e))
-    go false true c d t p u w e n o = absurd (true≢false (sym e))
-    go false false true d t p u w e n o = absurd (true≢false (sym e))
-    go false false false true t p u w e n o = absurd (true≢false (sym e))
-    go false false false false true p u w e n o = absurd (true≢false (sym e))
-    go false false false false false true u w e n o = absurd (true≢false (sym e))
-    go false false false false false false true w e n o = absurd (true≢false (sym e))
-    go false false false false false false false false e n o = absurd (true≢false (sym e))
-    go false false false false false false false true e n o = rw (n, o)
+    go : (a c d t p u w : Bool) → not ((a || (c || d)) || (t || (p || (u || not w)))) ≡ true → number ≡ 0 → own ≡ 0 → 0 ≡ rowsBy number own a c d t p u w
+    go true c d t p u w e n o = absurd (true≢false (sym e))
+    go false true d t p u w e n o = absurd (true≢false (sym e))
+    go false false true t p u w e n o = absurd (true≢false (sym e))
+    go false false false true p u w e n o = absurd (true≢false (sym e))
+    go false false false false true u w e n o = absurd (true≢false (sym e))
+    go false false false false false true w e n o = absurd (true≢false (sym e))
+    go false false false false false false false e n o = absurd (true≢false (sym e))
+    go false false false false false false true e n o = rw (n, o)
 
 -- ---- the rows, from what is known of the name
 
 -- what is known of a name, in cases
 known-front : (into : Bool) (v : View) (l : Storage) (nm : Option Name) (f : Named) → Sees into v l nm f → (P : ℕ → Bool → Type 0) → (misreadInto into v l nm ≡ true → P 1 (f .field .live))
     → (misreadInto into v l nm ≡ false → badName nm ≡ true → P 9 (f .field .live))
-    → (misreadInto into v l nm ≡ false → badName nm ≡ false → namesFull v l nm ≡ true → P 12 (liveUnder v l nm))
-    → (misreadInto into v l nm ≡ false → badName nm ≡ false → namesFull v l nm ≡ false → P 0 (liveUnder v l nm)) → P (f .number) (f .field .live)
+    → (misreadInto into v l nm ≡ false → badName nm ≡ false → namesFull v l nm ≡ true → P 12 (liveInto into v l nm))
+    → (misreadInto into v l nm ≡ false → badName nm ≡ false → namesFull v l nm ≡ false → P 0 (liveInto into v l nm)) → P (f .number) (f .field .live)
 known-front into v l nm f s P a b c d = go (misreadInto into v l nm) (badName nm) (namesFull v l nm) refl refl refl
   where
     go : (x y z : Bool) → misreadInto into v l nm ≡ x → badName nm ≡ y → namesFull v l nm ≡ z → P (f .number) (f .field .live)
@@ -92,13 +91,12 @@ past-own : (own rest : ℕ) → cond (not (eqb own 0)) own rest ≡ 0 → rest �
 past-own zero rest e = e
 past-own (suc n) rest e = let z : suc n ≡ 0 = rw (ne-eqb (suc n) 0 (λ p. omega arith)) at e in absurd (omega arith)
 
-rows-zero : (number own : ℕ) (finished inside wrong second taken deep full fit : Bool) → rowsBy number own finished inside wrong second taken deep full fit ≡ 0
+rows-zero : (number own : ℕ) (finished wrong second taken deep full fit : Bool) → rowsBy number own finished wrong second taken deep full fit ≡ 0
     → (eqb number 1 ≡ false) × ((eqb number 9 ≡ false) × (eqb number 12 ≡ false))
-rows-zero number own finished inside wrong second taken deep full fit e =
+rows-zero number own finished wrong second taken deep full fit e =
     let a = past (eqb number 1) 0 _ e in
     let b = past finished 1 _ (a .1) in
-    let c = past inside 3 _ (b .1) in
-    let d = past wrong 4 _ (c .1) in
+    let d = past wrong 4 _ (b .1) in
     let f = past second 5 _ (d .1) in
     let i = past (eqb number 9) 8 _ (past-own own _ (f .1)) in
     let j = past taken 9 _ (i .1) in
@@ -107,39 +105,38 @@ rows-zero number own finished inside wrong second taken deep full fit e =
 
 -- the rows of its name, its entry and its room are clear: row i's test does not hold
 pub enter-late : (v : View) (l : Storage) (nm : Option Name) (into opens : Bool) (own size : ℕ) → first (enterRows v l nm into opens own size) ≡ 0
-    → (i : ℕ) → testOf i (lateRows v l nm opens size) ≡ false
+    → (i : ℕ) → testOf i (lateRows v l nm into opens size) ≡ false
 unfolding first
 enter-late v l nm into opens own size e i =
     let a = past (damaged v l (misreadInto into v l nm)) 0 _ e in
     let b = past (v .counts .finished) 1 _ (a .1) in
-    let c = past (not into && isOpen v) 3 _ (b .1) in
-    let d = past (into && misnamed nm v) 4 _ (c .1) in
-    let k = first-none (behind 8 order) (lateRows v l nm opens size) refl .0 (past-own own _ (past (into && secondTop v) 5 _ (d .1) .1)) in
-    clear-at i (lateRows v l nm opens size) k
+    let d = past (into && misnamed nm v) 4 _ (b .1) in
+    let k = first-none (behind 8 order) (lateRows v l nm into opens size) refl .0 (past-own own _ (past (into && secondTop v) 5 _ (d .1) .1)) in
+    clear-at i (lateRows v l nm into opens size) k
 
 -- the answer: the field where the number is 0
-pub decides : {into : Bool} {n m : ℕ} {v : View} {l : Storage} {nm : Option Name} {f : Named} {r : Decided} → Sees into v l nm f → (n ≡ 0 → f .number ≡ 0) → m ≡ n → r ≡ decidedOf n (f .field) → Decides m v l nm r
+pub decides : {into : Bool} {n m : ℕ} {v : View} {l : Storage} {nm : Option Name} {f : Named} {r : Decided} → Sees into v l nm f → (n ≡ 0 → f .number ≡ 0) → m ≡ n → r ≡ decidedOf n (f .field) → Decides m into v l nm r
 decides {into} {n} {m} {v} {l} {nm} {f} {r} s z e d = go (eqb n 0) refl
   where
-    go : (t : Bool) → eqb n 0 ≡ t → Decides m v l nm r
+    go : (t : Bool) → eqb n 0 ≡ t → Decides m into v l nm r
     go true p = record { number = rw (d, p, e) (sym (eqb-true n 0 p)); field = rw (d, e, p) (s .field (z (eqb-true n 0 p))) }
     go false p = record { number = rw (d, p, e); field = rw (d, e, p) }
 
 -- the answer where number 1's part that every call asks holds
-pub decides-broken : {v : View} {l : Storage} {nm : Option Name} {g : Field} {r : Decided} (m : Bool) (rs : List Row) → brokenOf v l ≡ true → g ≡ noField → r ≡ decidedOf 1 g
-    → Decides (first (row 1 (damaged v l m) ∷ rs)) v l nm r
+pub decides-broken : {into : Bool} {v : View} {l : Storage} {nm : Option Name} {g : Field} {r : Decided} (m : Bool) (rs : List Row) → brokenOf v l ≡ true → g ≡ noField → r ≡ decidedOf 1 g
+    → Decides (first (row 1 (damaged v l m) ∷ rs)) into v l nm r
 unfolding first
-decides-broken {v} {l} m rs e q d = let z = damaged-broken v l m e in record { number = rw (d, z); field = rw (d, z) }
+decides-broken {v = v} {l = l} m rs e q d = let z = damaged-broken v l m e in record { number = rw (d, z); field = rw (d, z) }
 
 -- ---- as the code has it
 
 module _ (v : View) (l : Storage) (named : Bool) (name : Name) {f : Named} {r : Decided} {n : ℕ} {into : Bool} (e : brokenOf v l ≡ false) (s : Sees into v l (nameOf named name) f) where
   pub enter-decides : (opens : Bool) (own size : ℕ) {fit : Bool} → fit ≡ fits (v .counts .value) size (length (l .value)) → n ≡ enterBy v f named into opens own fit (length (l .entries))
-      → r ≡ decidedOf n (f .field) → Decides (first (enterRows v l (nameOf named name) into opens own size)) v l (nameOf named name) r
+      → r ≡ decidedOf n (f .field) → Decides (first (enterRows v l (nameOf named name) into opens own size)) into v l (nameOf named name) r
   enter-decides opens own size {fit} t p d =
       decides s
-      (λ z. let q = rows-zero (f .number) own (v .counts .finished) (not into && isOpen v) (into && misnamedBy named v) (into && secondTop v) (uniqueNow v && f .field .live)
-      (opens && leb 64 (v .counts .depth)) (fullBy v (f .field .live) (length (l .entries))) fit (sym p ∙ z) in name-zero v l (nameOf named name) f s (q .0) (q .1 .0) (q .1 .1))
+      (λ z. let q = rows-zero (f .number) own (v .counts .finished) (into && misnamedBy named v) (into && secondTop v) (uniqueNow v && f .field .live)
+      (opens && leb 64 (v .counts .depth)) (fullBy into v (f .field .live) (length (l .entries))) fit (sym p ∙ z) in name-zero v l (nameOf named name) f s (q .0) (q .1 .0) (q .1 .1))
       (sym (p ∙ (ap (λ b. enterBy v f named into opens own b (length (l .entries))) t ∙ enter-rows v l named name f into opens own size e s))) d
 
 -- ---- each call's rows
@@ -183,12 +180,11 @@ open-number v l nm object = go (overUsed v l) refl
     go true p = rw p
     go false p = rw (p, misread-into v l nm, none-long v l p)
 
--- a register's: it enters nothing into a container
+-- a register's: it enters nothing into a container, whatever is open
 pub register-number : (v : View) (l : Storage) (n : Name) → first (enterRows v l (some n) false false 0 0) ≡ numberOf v l (register n)
 unfolding first numberOf
-register-number v l n = go (overUsed v l) (isOpen v) refl refl
+register-number v l n = go (overUsed v l) refl
   where
-    go : (o d : Bool) → overUsed v l ≡ o → isOpen v ≡ d → first (enterRows v l (some n) false false 0 0) ≡ numberOf v l (register n)
-    go true d p q = rw p
-    go false true p q = rw (p, q, or-false (fallenEnds v l))
-    go false false p q = rw (p, q, or-false (fallenEnds v l), and-false (v .counts .unique), none-long v l p)
+    go : (o : Bool) → overUsed v l ≡ o → first (enterRows v l (some n) false false 0 0) ≡ numberOf v l (register n)
+    go true p = rw p
+    go false p = rw (p, or-false (fallenEnds v l), and-false (uniqueNow v), none-long v l p)

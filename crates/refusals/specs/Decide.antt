@@ -5,7 +5,7 @@ use mathlib.Core.List.{List, [], _∷_}
 use mathlib.Core.Option.{Option, none, some}
 use Prim.Native.Nat.{ℕ, _+_}
 use lib.Dec.{eqb, leb, ltb}
-use lib.ListN.{drop, take}
+use lib.ListN.{drop, length, take}
 use Rattle.encoding.specs.Rows.{Row, row, first}
 use Rattle.metadata.specs.Names.{Name}
 use Rattle.metadata.specs.Calls.{Told}
@@ -16,7 +16,7 @@ use Rattle.semantics.specs.declared.ParentEntry.the-variants.{New, Replaced}
 use Rattle.semantics.specs.declared.View.{View}
 use Rattle.semantics.specs.Record.{Storage, close, finish, isOpen, inObject, innerEntries, parentSize, parentEntries, uniqueNow}
 use Rattle.semantics.specs.Damage.{damaged, fallenEnds, misplacedInner, overUsed, unchained, misplacedParent, orphaned}
-use Rattle.semantics.specs.Table.{rows, held, liveUnder, badName, entriesFull, misnamed, namesFull, secondTop, taken, tooLong}
+use Rattle.semantics.specs.Table.{rows, held, liveUnder, badName, misnamed, namesFull, secondTop, tooLong}
 use Rattle.semantics.specs.Step.{idFor, placeFor}
 use Rattle.refusals.specs.declared.Field.{Field}
 use Rattle.refusals.specs.declared.Decided.{Decided}
@@ -36,17 +36,21 @@ abbrev pub isNew : View → Storage → Option Name → Bool
 isNew v l none = false
 isNew v l (some n) = not (held v l n)
 
-unfoldable pub fieldOf : View → Storage → Option Name → Field
-fieldOf v l nm = record { id = idFor v l nm; place = cond (liveUnder v l nm) (placeFor v l nm) 0; new = isNew v l nm; live = liveUnder v l nm }
+-- live where the call enters a value: a register, of which `into` is false, enters none
+abbrev pub liveInto : Bool → View → Storage → Option Name → Bool
+liveInto into v l nm = into && liveUnder v l nm
+
+unfoldable pub fieldOf : Bool → View → Storage → Option Name → Field
+fieldOf into v l nm = record { id = idFor v l nm; place = cond (liveInto into v l nm) (placeFor v l nm) 0; new = isNew v l nm; live = liveInto into v l nm }
 
 abbrev pub noField : Field
 noField = record { id = 0; place = 0; new = false; live = false }
 
 -- ---- the answers: a number n and, where it is 0, what the call then needs
 
-pub record Decides (n : ℕ) (v : View) (l : Storage) (nm : Option Name) (r : Decided) : Type 0 where
+pub record Decides (n : ℕ) (into : Bool) (v : View) (l : Storage) (nm : Option Name) (r : Decided) : Type 0 where
   pub number : r .number ≡ n
-  pub field : r .field ≡ cond (eqb n 0) (fieldOf v l nm) noField
+  pub field : r .field ≡ cond (eqb n 0) (fieldOf into v l nm) noField
 
 -- the place of the parent's entry that gets its former offset again; 0 where there is none
 abbrev pub placeBack : View → Storage → ParentEntry → ℕ
@@ -81,14 +85,19 @@ misnamedBy named v = cond named (not (inObject v)) (inObject v)
 abbrev pub toldBy : Known → Told
 toldBy k = record { number = k .number; id = k .id; new = k .new }
 
--- the rows of a name, an entry and room, from 9 on
-abbrev pub lateRows : View → Storage → Option Name → Bool → ℕ → List Row
-lateRows v l nm opens size =
-    row 9 (badName nm)
-    ∷ (row 10 (taken v l nm)
-    ∷ (row 11 (opens && leb 64 (v .counts .depth)) ∷ (row 12 (namesFull v l nm) ∷ (row 13 (entriesFull v l nm) ∷ (row 14 (tooLong v l size) ∷ [])))))
+-- 13, from whether the name is live
+abbrev pub fullBy : Bool → View → Bool → ℕ → Bool
+fullBy into v live lent = ((into && isOpen v) && not live) && leb (roomFor lent) (v .counts .entries)
 
--- number 1's own part of a call that gives a name; `into` is false of a register, which enters nothing into a container
+-- the rows of a name, an entry and room, from 9 on
+abbrev pub lateRows : View → Storage → Option Name → Bool → Bool → ℕ → List Row
+lateRows v l nm into opens size =
+    row 9 (badName nm)
+    ∷ (row 10 (uniqueNow v && liveInto into v l nm)
+    ∷ (row 11 (opens && leb 64 (v .counts .depth))
+    ∷ (row 12 (namesFull v l nm) ∷ (row 13 (fullBy into v (liveInto into v l nm) (length (l .entries))) ∷ (row 14 (tooLong v l size) ∷ [])))))
+
+-- number 1's own part of a call that gives a name
 abbrev pub misreadInto : Bool → View → Storage → Option Name → Bool
 misreadInto into v l none = false
 misreadInto into v l (some n) = fallenEnds v l || (into && misplacedInner v l)
@@ -98,14 +107,13 @@ abbrev pub enterRows : View → Storage → Option Name → Bool → Bool → �
 enterRows v l nm into opens own size =
     row 1 (damaged v l (misreadInto into v l nm))
     ∷ (row 2 (v .counts .finished)
-    ∷ (row 4 (not into && isOpen v)
-    ∷ (row 5 (into && misnamed nm v) ∷ (row 6 (into && secondTop v) ∷ (row own (not (eqb own 0)) ∷ lateRows v l nm opens size)))))
+    ∷ (row 5 (into && misnamed nm v) ∷ (row 6 (into && secondTop v) ∷ (row own (not (eqb own 0)) ∷ lateRows v l nm into opens size))))
 
 -- what is known of a name: the first of rows 1 (the call's own part), 9 and 12 that holds, and its field
 pub record Sees (into : Bool) (v : View) (l : Storage) (nm : Option Name) (r : Named) : Type 0 where
   pub number : r .number ≡ cond (misreadInto into v l nm) 1 (cond (badName nm) 9 (cond (namesFull v l nm) 12 0))
-  pub live : misreadInto into v l nm ≡ false → badName nm ≡ false → r .field .live ≡ liveUnder v l nm
-  pub field : r .number ≡ 0 → r .field ≡ fieldOf v l nm
+  pub live : misreadInto into v l nm ≡ false → badName nm ≡ false → r .field .live ≡ liveInto into v l nm
+  pub field : r .number ≡ 0 → r .field ≡ fieldOf into v l nm
 
 abbrev pub decidedOf : ℕ → Field → Decided
 decidedOf n g = cond (eqb n 0) (record { field = g; number = 0 }) (record { field = noField; number = n })
@@ -115,20 +123,16 @@ pub record ParentOf (v : View) (l : Storage) (r : Parent) : Type 0 where
   pub place : r .place ≡ placeBack v l (v .inner .parent)
 
 -- those rows, from what is known of the name
-abbrev pub fullBy : View → Bool → ℕ → Bool
-fullBy v live lent = (isOpen v && not live) && leb (roomFor lent) (v .counts .entries)
-
-abbrev pub rowsBy : ℕ → ℕ → Bool → Bool → Bool → Bool → Bool → Bool → Bool → Bool → ℕ
-rowsBy number own finished inside wrong second taken deep full fit =
+abbrev pub rowsBy : ℕ → ℕ → Bool → Bool → Bool → Bool → Bool → Bool → Bool → ℕ
+rowsBy number own finished wrong second taken deep full fit =
     cond (eqb number 1) 1
     (cond finished 2
-    (cond inside 4
     (cond wrong 5
     (cond second 6
     (cond (not (eqb own 0)) own
-    (cond (eqb number 9) 9 (cond taken 10 (cond deep 11 (cond (eqb number 12) 12 (cond full 13 (cond (not fit) 14 0)))))))))))
+    (cond (eqb number 9) 9 (cond taken 10 (cond deep 11 (cond (eqb number 12) 12 (cond full 13 (cond (not fit) 14 0))))))))))
 
 abbrev pub enterBy : View → Named → Bool → Bool → Bool → ℕ → Bool → ℕ → ℕ
 enterBy v f named into opens own fit lent =
-    rowsBy (f .number) own (v .counts .finished) (not into && isOpen v) (into && misnamedBy named v) (into && secondTop v) (uniqueNow v && f .field .live)
-    (opens && leb 64 (v .counts .depth)) (fullBy v (f .field .live) lent) fit
+    rowsBy (f .number) own (v .counts .finished) (into && misnamedBy named v) (into && secondTop v) (uniqueNow v && f .field .live)
+    (opens && leb 64 (v .counts .depth)) (fullBy into v (f .field .live) lent) fit

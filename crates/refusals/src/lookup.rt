@@ -69,6 +69,7 @@ fn refused(number: u8) -> Known
     }
 }
 
+// What the pass over the entries finds counts where a value is entered (`into`), and not for a register.
 pub(crate) fn field_of(
     v: View,
     value: &[u8],
@@ -96,8 +97,8 @@ pub(crate) fn field_of(
     let names = num_field_names(m);
     let size = saturating_sub(c.value, k.value);
     let s = search_entries(entries, k.entries, c.entries, k.object, names, size, n.id);
-    let open = is_open(v);
-    let live = open & (((n.number == 0) & !n.new) & (s.place < c.entries));
+    let inside = into & is_open(v);
+    let live = inside & (((n.number == 0) & !n.new) & (s.place < c.entries));
     Named {
         field: Field {
             id: n.id,
@@ -105,7 +106,7 @@ pub(crate) fn field_of(
             new: n.new,
             live: live,
         },
-        number: one_if((n.number == 1) | ((into & open) & s.misplaced), n.number),
+        number: one_if((n.number == 1) | (inside & s.misplaced), n.number),
     }
 }
 

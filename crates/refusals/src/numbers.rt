@@ -31,8 +31,8 @@ ghost use Rattle.semantics.specs.Record.{rollBack, uniqueness, storageOf};
 ghost use Rattle.semantics.specs.Table.{numberOf};
 ghost use Rattle.refusals.specs.Decide.{ClosesBy, Decides, ParentOf, enterBy, enterRows, finishBy, fullBy, rowsBy, Undoes, decidedOf, nameOf};
 
-// A register's, an append's and an open's. `into` is false of a register, which enters nothing into a container; `opens` is true of an
-// open; `own` is the scalar's own number, 0 where it has none; `size` is the scalar's bytes.
+// A register's, an append's and an open's. `into` is false of a register, which enters nothing into a container, whatever is open;
+// `opens` is true of an open; `own` is the scalar's own number, 0 where it has none; `size` is the scalar's bytes.
 pub fn enter_number(
     v: View,
     value: &[u8],
@@ -49,7 +49,7 @@ pub fn enter_number(
     ensures { λ r. ⌜ Decides
         (first
         (enterRows v (storageOf (now (value .entry)) (now (text .entry)) (now (ends .entry)) (now (entries .entry)))
-        (nameOf named (now (name .entry))) into opens own size)) v
+        (nameOf named (now (name .entry))) into opens own size)) into v
         (storageOf (now (value .entry)) (now (text .entry)) (now (ends .entry)) (now (entries .entry))) (nameOf named (now (name .entry))) r ⌝ }
 {
     if broken(v, value, text, ends, entries) {
@@ -83,17 +83,15 @@ fn enter_rows(
     ensures { λ r. ⌜ r ≡ enterBy v f named into opens own fit (length (now (entries .entry))) ⌝ }
 {
     let g = f.field;
-    let inside = !into & is_open(v);
     let wrong = into & misnamed(v, named);
     let second = into & second_top(v);
     let taken = unique_now(v) & g.live;
     let deep = opens & (64 <= v.counts.depth);
-    let full = entries_full(v, g.live, entries);
+    let full = entries_full(v, into, g.live, entries);
     rows(
         f.number,
         own,
         v.counts.finished,
-        inside,
         wrong,
         second,
         taken,
@@ -108,7 +106,6 @@ fn rows(
     number: u8,
     own: u8,
     finished: bool,
-    inside: bool,
     wrong: bool,
     second: bool,
     taken: bool,
@@ -116,10 +113,10 @@ fn rows(
     full: bool,
     fit: bool,
 ) -> u8
-    ensures { λ r. ⌜ r ≡ rowsBy number own finished inside wrong second taken deep full fit ⌝ }
+    ensures { λ r. ⌜ r ≡ rowsBy number own finished wrong second taken deep full fit ⌝ }
 {
     let known = (number == 0) & (own == 0);
-    let one = (finished | (inside | (wrong | second))) | (taken | (deep | (full | !fit)));
+    let one = (finished | (wrong | second)) | (taken | (deep | (full | !fit)));
     if known & !one {
         return 0;
     }
@@ -129,11 +126,7 @@ fn rows(
     row(
         number == 1,
         1,
-        row(
-            finished,
-            2,
-            row(inside, 4, row(wrong, 5, row(second, 6, rest))),
-        ),
+        row(finished, 2, row(wrong, 5, row(second, 6, rest))),
     )
 }
 
@@ -247,10 +240,10 @@ fn decided(n: u8, g: Field) -> Decided
 }
 
 // Row 13, of a name that is live or not.
-fn entries_full(v: View, live: bool, entries: &[usize]) -> bool
-    ensures { λ r. ⌜ r ≡ fullBy v live (length (now (entries .entry))) ⌝ }
+fn entries_full(v: View, into: bool, live: bool, entries: &[usize]) -> bool
+    ensures { λ r. ⌜ r ≡ fullBy into v live (length (now (entries .entry))) ⌝ }
 {
-    (is_open(v) & !live) & (entries.len() / 2 <= v.counts.entries)
+    ((into & is_open(v)) & !live) & (entries.len() / 2 <= v.counts.entries)
 }
 
 // For a child that is not at the top level: is its parent damaged for it, and where is the parent's entry of its id.

@@ -173,7 +173,7 @@ backAt m lent nm size =
 
 abbrev pub rowsAt : Machine → Lent → Call → List Row
 rowsAt m lent (register n) =
-    row 2 (m .finished) ∷ (row 4 (anyOpen (m .conts)) ∷ (row 9 (badName (some n)) ∷ (row 12 (fullFor lent (m .names) (some n)) ∷ [])))
+    row 2 (m .finished) ∷ (row 9 (badName (some n)) ∷ (row 12 (fullFor lent (m .names) (some n)) ∷ []))
 rowsAt m lent (append nm x) = frontAt m nm ++ (scalarRows x ++ backAt m lent nm (length (scalarBytes (scalarOf x))))
 rowsAt m lent (openIn nm k) =
     row 2 (m .finished)

@@ -258,7 +258,7 @@ module _ {v : View} {l : Storage} {m : Machine} (s : Sees v l m) (o : Orderly m)
   sees-number : (c : Call) → numberOf v l c ≡ numberAt m (lentBy l) c
   unfolding numberOf numberAt first
   sees-number (register n) = λ i.
-      first (row 1 (damaged-none (register n) i) ∷ (row 2 (s .stored .finished i) ∷ (row 4 (open-law s i) ∷ (row 9 (badName (some n)) ∷ (row 12 (full-law s (some n) i) ∷ [])))))
+      first (row 1 (damaged-none (register n) i) ∷ (row 2 (s .stored .finished i) ∷ (row 9 (badName (some n)) ∷ (row 12 (full-law s (some n) i) ∷ []))))
   sees-number (append nm x) = λ i.
       first (row 1 (damaged-none (append nm x) i)
       ∷ (row 2 (s .stored .finished i)

@@ -394,7 +394,6 @@ module _ (m : Machine) (a : Account) (x : Linked m a) where
   rows-agree : (lent : Lent) (c : Call) → Agree (rowsAt m lent c) (refusalRows (named m a) lent c)
   rows-agree lent (register n) =
       x .finished
-      then λ _. open-agree
       then λ _. refl
       then λ _. refl
       then λ _. tt

@@ -67,6 +67,7 @@ unfoldable pub dropLevel : List Name → Option Tree → List Level → History
 dropLevel ns top [] = record { names = ns; top = top; levels = [] }
 dropLevel ns top (l ∷ ls) = record { names = l .before; top = top; levels = ls }
 
+-- document 02, A1: a name registered inside "takes its turn among the names first registered, unless struck out with its container"
 unfoldable pub accepted : History → Call → History
 accepted h (register n) = record { names = withName (h .names) (some n); top = h .top; levels = h .levels }
 accepted h (append nm v) = enter (withName (h .names) nm) (h .top) (h .levels) nm (scalar (scalarOf v))

@@ -159,8 +159,7 @@ noBytesFree lent sums size = not (fits (total sums) size (lent .value))
 
 abbrev pub refusalRows : Account → Lent → Call → List Row
 refusalRows a lent (register n) =
-    row 2 (a .finished)
-    ∷ (row 4 (anyOpen (a .history .levels)) ∷ (row 9 (badName (some n)) ∷ (row 12 (fullFor lent (a .history .names) (some n)) ∷ [])))
+    row 2 (a .finished) ∷ (row 9 (badName (some n)) ∷ (row 12 (fullFor lent (a .history .names) (some n)) ∷ []))
 refusalRows a lent (append nm v) =
     row 2 (a .finished)
     ∷ (row 5 (misnamedIn nm (a .history .levels))

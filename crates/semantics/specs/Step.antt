@@ -71,6 +71,8 @@ abbrev pub withCounts : Counts → ℕ → ℕ → ℕ → MetadataBuilder → C
 withCounts c value entries depth dictionary =
     record { value = value; entries = entries; depth = depth; dictionary = dictionary; unique = c .unique; finished = c .finished }
 
+-- document 02, A1: "A new name belongs to the innermost open container and goes when that one is rolled back": it comes behind that one's
+-- starting mark of names, which stays
 unfoldable pub registered : View → Storage → Name → Left
 registered v l n =
     let c = v .counts in

@@ -98,10 +98,11 @@ backRows v l nm size =
 abbrev pub appendRows : View → Storage → Option Name → List Row → ℕ → List Row
 appendRows v l nm own size = frontRows v l nm ++ (own ++ backRows v l nm size)
 
+-- register's: document 02, A1, "Registering becomes allowed with containers open", "number 4 remains for finish"
 abbrev pub rows : View → Storage → Call → List Row
 rows v l (register n) =
     row 1 (damaged v l (misread v l (register n)))
-    ∷ (row 2 (v .counts .finished) ∷ (row 4 (isOpen v) ∷ (row 9 (badName (some n)) ∷ (row 12 (namesFull v l (some n)) ∷ []))))
+    ∷ (row 2 (v .counts .finished) ∷ (row 9 (badName (some n)) ∷ (row 12 (namesFull v l (some n)) ∷ [])))
 rows v l (append nm x) = appendRows v l nm (scalarRows x) (length (scalarBytes (scalarOf x)))
 rows v l (openIn nm k) =
     row 1 (damaged v l (misread v l (openIn nm k)))

@@ -72,7 +72,7 @@ class Step:
     def key_of(b):
         r, s = b.r, b.s
         return repr((r.value_used, r.names_used, r.namebytes_used, r.entries_used, r.open, r.unique,
-                     r.sorted, r.finished, r.containers[:r.open], s.value, s.namebytes, s.nameends, s.entries))
+                     r.finished, r.containers[:r.open], s.value, s.namebytes, s.nameends, s.entries))
 
     def key(self):
         return self.key_of(self.before) + repr(self.call)
@@ -179,7 +179,7 @@ def random_poke(rng, b):
         field = rng.choice(["value_used", "names_used", "namebytes_used", "entries_used", "open"])
         return [field, near(rng, getattr(r, field))]
     if what == "mark":
-        return [rng.choice(["unique", "sorted", "finished"]), rng.randrange(2)]
+        return [rng.choice(["unique", "finished"]), rng.randrange(2)]
     if what == "container" and depth:
         i = rng.randrange(depth)
         c = r.containers[i]
@@ -199,7 +199,7 @@ def random_poke(rng, b):
     if what == "entry" and len(s.entries) > 1:
         k = rng.randrange(len(s.entries) // 2)
         return [what, k, near(rng, s.entries[2 * k]) if rng.random() < 0.5 else s.entries[2 * k], near(rng, s.entries[2 * k + 1])]
-    return ["sorted", rng.randrange(2)]
+    return ["unique", rng.randrange(2)]
 
 
 def random_run(model, rng, number):
@@ -252,7 +252,7 @@ def one_off(before, call):
         yield lambda f=field: state(lambda b: setattr(b.r, f, getattr(b.r, f) + 1))
         if getattr(r, field):
             yield lambda f=field: state(lambda b: setattr(b.r, f, getattr(b.r, f) - 1))
-    for field in ("unique", "sorted", "finished"):
+    for field in ("unique", "finished"):
         yield lambda f=field: state(lambda b: setattr(b.r, f, not getattr(b.r, f)))
     for i in range(min(r.open, 64)):
         c = r.containers[i]
@@ -558,7 +558,7 @@ def container_term(c):
 def state_term(b, entries):
     r, s = b.r, b.s
     containers = "(" + "".join(container_term(c) + " ∷ " for c in r.containers[:r.open]) + "[])"
-    return (f"(state {r.value_used} {r.names_used} {r.namebytes_used} {r.entries_used} {r.open} {bools(r.sorted)} {bools(r.unique)} "
+    return (f"(state {r.value_used} {r.names_used} {r.namebytes_used} {r.entries_used} {r.open} {bools(r.unique)} "
             f"{bools(r.finished)} {containers} {numbers(s.value)} {numbers(s.namebytes)} {numbers(s.nameends)} {numbers(entries)})")
 
 
@@ -600,13 +600,13 @@ box value names text entries parent object unique = record { value = value; name
 abbrev pub padded : List Container → List Container
 padded cs = cs ++ replicate (64 - length cs) (box 9 8 7 6 (Replaced 5 4) true true)
 
-abbrev pub state : ℕ → ℕ → ℕ → ℕ → ℕ → Bool → Bool → Bool → List Container → List ℕ → List ℕ → List ℕ → List ℕ → State
-state value names text entries depth sorted unique finished containers valueBytes textBytes ends numbers =
+abbrev pub state : ℕ → ℕ → ℕ → ℕ → ℕ → Bool → Bool → List Container → List ℕ → List ℕ → List ℕ → List ℕ → State
+state value names text entries depth unique finished containers valueBytes textBytes ends numbers =
     record {
       builder =
           record {
             containers = containers;
-            counts = record { value = value; entries = entries; depth = depth; dictionary = record { names = names; text = text; sorted = sorted }; unique = unique; finished = finished };
+            counts = record { value = value; entries = entries; depth = depth; dictionary = record { names = names; text = text }; unique = unique; finished = finished };
           };
       storage = storageOf valueBytes textBytes ends numbers;
     }
@@ -650,7 +650,7 @@ alikeCounts c d =
     && (eqb (c .depth) (d .depth)
     && (eqb (c .dictionary .names) (d .dictionary .names)
     && (eqb (c .dictionary .text) (d .dictionary .text)
-    && (alike (c .dictionary .sorted) (d .dictionary .sorted) && (alike (c .unique) (d .unique) && alike (c .finished) (d .finished)))))))
+    && (alike (c .unique) (d .unique) && alike (c .finished) (d .finished))))))
 
 unfoldable pub alikeStorage : Storage → Storage → Bool
 alikeStorage s t = same (s .value) (t .value) && (same (s .text) (t .text) && (same (s .ends) (t .ends) && same (s .entries) (t .entries)))
@@ -688,9 +688,8 @@ use Rattle.encoding.specs.Slices.{write, shift}
 use Rattle.value.specs.Scalar.{scalarBytes}
 use Rattle.value.specs.declared.variant.Variant.the-variants as variant
 use Rattle.value.specs.declared.variant.VariantBytes.the-variants as kind
-use Rattle.metadata.specs.Names.{cuts, namesOf, risen, intact, same, place, below}
+use Rattle.metadata.specs.Names.{cuts, namesOf, risen, intact, same, place, below, ascending, sorted}
 use Rattle.metadata.specs.Bytes.{joined, endsFrom, laidOut, dictionary}
-use Rattle.metadata.specs.Calls.{marked}
 use Rattle.container.specs.Layout.{listHeaderAt, listHeader, objectHeaderAt, largest, objectHeader}
 use Rattle.container.specs.Entries.{entriesOf, putEntries, seek, misplaced}
 use Rattle.container.specs.Sort.{insert, sort}
@@ -707,7 +706,7 @@ use Rattle.agree.specs.Compare.{Check, box, state, leaves, refuses, alik
 """
 
 UNFOLDING = ("width le les number twos whole table follow rest utf8 write shift scalarBytes cuts namesOf risen intact same place below "
-             "joined endsFrom laidOut dictionary marked listHeaderAt listHeader objectHeaderAt largest objectHeader entriesOf putEntries "
+             "joined endsFrom laidOut dictionary ascending sorted listHeaderAt listHeader objectHeaderAt largest objectHeader entriesOf putEntries "
              "seek misplaced insert sort fronted overUsed rising chained unchained fallenEnds misplacedInner misplacedParent damagedParent "
              "header first numberOf registered appended opened newContainer entriesClosed closed rolledBack finished dictionaryOf after step steps.withUnique "
              "alike alikeParents alikeContainers begins alikeCounts alikeStorage alikeStates agrees faults")

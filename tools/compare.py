@@ -12,9 +12,10 @@ requests of document 02 by which the model answers, as its --with does; without 
 Every answer of WRITER must be the model's. ORACLE gets the same runs but for altered storage, without the calls
 that are refused with a number other than 6, 10 and 15 (a refusal changes nothing; so none of 17 and above) and
 without dumps; each of its answers must be WRITER's. Left out is a run with an accepted scalar that the Rust's types
-don't hold, a name registered inside a container, a floor other than 1, a mark set or returned to.
---sample writes scripts.txt and answers.txt: short runs of calls that the Rust answers, and its answers; the model
-answers there by document 01 alone.
+don't hold, a name registered inside a container, a floor other than 1, a mark set or returned to. From an accepted roll back
+on the dictionary's sorted mark is not compared with the Rust, which keeps another one there; in all other runs it is.
+--sample writes scripts.txt and answers.txt: short runs of calls that the Rust answers, chosen by document 01 alone, and its
+answers, but for the mark where it is not compared: that one is the model's, by what has landed.
 """
 import argparse
 import collections
@@ -60,6 +61,18 @@ def beyond_rust(call, depth):
     return call[0] in ("mark", "return") or call[0] == "append" and not scripts.rust_holds(call[2])
 
 
+def unmarked(calls, answers):
+    """The answers, from an accepted roll back on without the dictionary's sorted mark: there the Rust keeps another (A3)."""
+    kept, rolled = [], False
+    for call, answer in zip(calls, answers):
+        rolled = rolled and call[0] != "new" or call[0] == "rollback" and answer.startswith("ok")
+        if rolled and answer.startswith("ok value="):
+            front, first = answer.split(" dict=")
+            answer = f"{front} dict={int(first[:2], 16) & ~16:02x}{first[2:]}"
+        kept.append(answer)
+    return kept
+
+
 def for_oracle(model, calls, answers):
     """The places of the lines that the Rust answers, or None where the run is left out."""
     places, depth = [], 0
@@ -93,7 +106,8 @@ def differs(model, writer, oracle, lines):
         if places is None:
             return None
         expected, got = ask(oracle, [lines[i] for i in places]), [got[i] if i < len(got) else "-" for i in places]
-        lines = [lines[i] for i in places]
+        lines, calls = [lines[i] for i in places], [calls[i] for i in places]
+        expected, got = unmarked(calls, expected), unmarked(calls, got)
     for i, line in enumerate(lines):
         pair = [answers[i] if i < len(answers) else "-" for answers in (expected, got)]
         if pair[0] != pair[1]:
@@ -132,6 +146,7 @@ class Counts:
         self.runs, self.finished, self.model, self.oracle = (collections.Counter() for _ in range(4))
         self.left_out, self.finished_oracle, self.verbs, self.answers = (collections.Counter() for _ in range(4))
         self.inner_names = self.inner_runs = 0
+        self.marks = collections.Counter(on=0, off=0, ignored=0)
 
     def note(self, run, places):
         kind = run.kind
@@ -149,6 +164,16 @@ class Counts:
         elif places:
             self.oracle[kind] += len(places) - 1
             self.finished_oracle[kind] += any(run.answers[i].startswith("ok value") for i in places)
+            self.note_mark([run.calls[i] for i in places], [run.answers[i] for i in places])
+
+    def note_mark(self, calls, answers):
+        """How the mark of a finished run was held against the Rust."""
+        rolled = False
+        for call, answer in zip(calls, answers):
+            rolled = rolled or call[0] == "rollback" and answer.startswith("ok")
+            if answer.startswith("ok value"):
+                first = int(answer.split(" dict=")[1][:2], 16)
+                self.marks["ignored" if rolled else "on" if first & 16 else "off"] += 1
 
     def show(self):
         row = "{:<10} {:>8} {:>13} {:>12} {:>9} {:>10} {:>9}"
@@ -160,6 +185,8 @@ class Counts:
         order = sorted(self.answers.items(), key=lambda p: int(p[0].split()[-1]) if " " in p[0] else 0)
         print("answers: " + ", ".join(f"{answer} {n}" for answer, n in order))
         print(f"names registered with containers open: {self.inner_names}, in {self.inner_runs} runs")
+        print(f"sorted mark of runs finished in both: compared on {self.marks['on']}, compared off {self.marks['off']}, "
+              f"ignored after a roll back {self.marks['ignored']}")
 
 
 def cut(answers, lengths):
@@ -188,7 +215,8 @@ def batch(model, args, runs, counts):
     if asked:
         rust = cut(ask(args.oracle, [run.lines[i] for run, p, _ in asked for i in p]), [len(p) for _, p, _ in asked])
         for (run, p, mine), theirs in zip(asked, rust):
-            if [mine[i] for i in p] != theirs and mine == run.answers:
+            calls = [run.calls[i] for i in p]
+            if unmarked(calls, [mine[i] for i in p]) != unmarked(calls, theirs) and mine == run.answers:
                 faults += 1
                 if faults <= SHOWN:
                     report(model, args.writer, args.oracle, run)
@@ -247,8 +275,10 @@ def sample(model, args, per_kind=46):
                 kept.append((f"# {len(kept) + 1} {kind}", lines))
                 found += 1
     calls = [line for _, lines in kept for line in lines]
-    answers = ask(args.oracle, calls)
-    if answers != model_answers(model, [model.parse_line(line) for line in calls]):
+    parsed, rust = [model.parse_line(line) for line in calls], ask(args.oracle, calls)
+    model.on = model.requests(LANDED)
+    answers = model_answers(model, parsed)
+    if unmarked(parsed, rust) != unmarked(parsed, answers):
         sys.exit("the Rust differs from the model")
     os.makedirs(args.sample, exist_ok=True)
     with open(os.path.join(args.sample, "scripts.txt"), "w") as out:

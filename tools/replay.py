@@ -1,6 +1,7 @@
 """Writes crates/test_replay/stdin: two sets of scripts with their answers, recoded so that the program `test_replay` needs no parser. Nothing is
 computed here. In crates/test_replay/data are
-- scripts.txt and the real Rust's answers to them, answers.txt, both made by tools/compare.py --sample;
+- scripts.txt and the real Rust's answers to them, answers.txt, both made by tools/compare.py --sample; the dictionary's sorted mark is
+  document 02's where a roll back was accepted before (A3);
 - edges.txt, written by hand: each of document 01's numbers refused, and just not, some over a record or storage altered by pokes; and
   edges_answers.txt, the answers of a model of document 01, since the Rust has no such cases. --answers makes them again, by
   tools/model or that of another FOLDER, with the requests of document 02 in SET, else with those that have landed (landed.py).

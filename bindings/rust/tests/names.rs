@@ -66,7 +66,7 @@ fn the_parents_after_a_close() {
         b.rollback()?;
         b.append_value(None, ())
     });
-    assert_eq!(finished(&mut b), ("00".to_string(), "110000".to_string()));
+    assert_eq!(finished(&mut b), ("00".to_string(), "010000".to_string()));
 }
 
 /// The uniqueness mark, the entries and the value bytes are not asked; the names' room and their UTF-8 are, and finish waits.

@@ -15,8 +15,8 @@ const OUTCOMES: [(Calls, &str, &str); 12] = [
     (two_fields, "020201000200040c010c02", "01020001026261"),
     (replaced, "02010002040c010c02", "1101000161"),
     (replacing_child_rolled_back, "02010000020c01", "1101000161"),
-    (all_rolled_back, "00", "110000"),
-    (new_child_rolled_back, "020200010002040c010c02", "01020001026263"),
+    (all_rolled_back, "00", "010000"),
+    (new_child_rolled_back, "020200010002040c010c02", "11020001026263"),
 ];
 
 fn list_in_list(b: &mut VariantBuilder) -> Result<(), Refusal> {

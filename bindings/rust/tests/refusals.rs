@@ -177,6 +177,6 @@ fn kinds_of_bytes() {
         assert_eq!(answer, if kind < 4 { 0 } else { 7 }, "kind {kind}");
         assert!(kind < 4 || words == before);
     }
-    words[7] = 1;
+    words[6] = 1;
     assert_eq!(append(&mut words, 4), 2);
 }

@@ -44,7 +44,7 @@ fn pokes() {
     let answer = answers(script);
     let lines: Vec<&str> = answer.lines().skip(9).collect();
     let counts = "value_used=0 names_used=1 namebytes_used=1 entries_used=1";
-    assert_eq!(lines[0], format!("dump {counts} open=1 unique=0 sorted=0 finished=0 c0=object:0,0,0,0:1:- value= names=61 e0=0@0"));
+    assert_eq!(lines[0], format!("dump {counts} open=1 unique=0 sorted=- finished=0 c0=object:0,0,0,0:1:- value= names=61 e0=0@0"));
     assert_eq!(lines[1], "refused 10");
     assert!(lines[3].starts_with(&format!("dump {counts} open=65 ")) && lines[3].ends_with(" broken"));
     assert_eq!(lines[4], "refused 1");

@@ -11,7 +11,7 @@ use Rattle.encoding.specs.Rows.{first}
 use Rattle.encoding.specs.Slices.{counted}
 use Rattle.metadata.specs.declared.Finished.{Finished}
 use Rattle.metadata.specs.declared.Finished.the-variants.{Damaged, NoRoom, Written}
-use Rattle.metadata.specs.Names.{intact, fieldNames, isSorted, textSize}
+use Rattle.metadata.specs.Names.{intact, fieldNames, textSize}
 use Rattle.metadata.specs.Bytes.{sizeOf}
 use Rattle.metadata.specs.Calls.{FinishesDictionary, finishNumber, finishes}
 use Rattle.metadata.proofs.BytesLaws.{dictionary-size, length-names, length-joined-names}
@@ -84,7 +84,7 @@ dictionary-bytes : (v : View) (l : Storage) → intact (v .counts .dictionary) (
 unfolding dictionaryOf
 dictionary-bytes v l i =
     let m = v .counts .dictionary in
-    dictionary-size (isSorted m) (namesHeld v l) ∙ (rw (length-names m (l .text) (l .ends) i, length-joined-names m (l .text) (l .ends) i))
+    dictionary-size (namesHeld v l) ∙ (rw (length-names m (l .text) (l .ends) i, length-joined-names m (l .text) (l .ends) i))
 
 -- one that is written has intact name ends
 written-intact : (v : View) (l : Storage) (out : List ℕ) → finishes (v .counts .dictionary) (l .text) (l .ends) out ≡ 0 → intact (v .counts .dictionary) (l .text) (l .ends) ≡ true

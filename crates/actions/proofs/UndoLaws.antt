@@ -8,7 +8,7 @@ use lib.Dec.{ltb}
 use borrow.Author.Tests.{ltb-true, not-false}
 use Rattle.encoding.specs.Rows.{first}
 use Rattle.metadata.specs.declared.MetadataBuilder.{MetadataBuilder}
-use Rattle.metadata.specs.Calls.{truncated}
+use Rattle.metadata.specs.Calls.{fromParts}
 use Rattle.semantics.specs.declared.ParentEntry.{ParentEntry}
 use Rattle.semantics.specs.declared.ParentEntry.the-variants.{New, Replaced}
 use Rattle.semantics.specs.declared.View.{View}
@@ -38,7 +38,7 @@ undone-back v l (Replaced id offset) = refl
 pub leaves-undone : {v : View} {l : Storage} {d : Undone} {count : ℕ} {cut : MetadataBuilder} {es : List ℕ} → Undoes (numberOf v l rollBack) v l d → d .number ≡ 0
     → count ≡ cond (ltb 1 (v .counts .depth)) (countBack (v .inner .entries) (v .inner .parent)) (v .inner .entries)
     → es ≡ cond (ltb 1 (v .counts .depth)) (entriesUndone (l .entries) (d .place) (v .inner .parent)) (l .entries)
-    → cut ≡ truncated (v .counts .dictionary) (v .inner .names) (v .inner .text)
+    → cut ≡ fromParts (v .inner .names) (v .inner .text)
     → Leaves v l rollBack (record { counts = withCounts (v .counts) (v .inner .value) count (v .counts .depth - 1) cut; number = 0 }) (storageOf (l .value) (l .text) (l .ends) es)
 unfolding rolledBack
 leaves-undone {v} {l} {d} {count} {cut} {es} u z p q t =

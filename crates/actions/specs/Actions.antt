@@ -59,7 +59,7 @@ abbrev pub adds : Bool → MetadataBuilder → List ℕ → List ℕ → Name �
 adds new m text ends name = new && hasRoom m text ends name
 
 pub record Registers (new : Bool) (m : MetadataBuilder) (text ends : List ℕ) (name : Name) (r : MetadataBuilder) (textAfter endsAfter : List ℕ) : Type 0 where
-  pub metadata : r ≡ cond (adds new m text ends name) (added m text ends name) m
+  pub metadata : r ≡ cond (adds new m text ends name) (added m name) m
   pub textLeft : textAfter ≡ cond (adds new m text ends name) (write (textSize m) name text) text
   pub endsLeft : endsAfter ≡ cond (adds new m text ends name) (set ends (fieldNames m) (textSize m + length name)) ends
 

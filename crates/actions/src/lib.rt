@@ -18,7 +18,7 @@
 // Each call over pieces of the builder's record: what it sees of the record (`View`), and the lent slices. A piece decides all
 // rows of its call first and then acts; it gives back the number and the counts, of an open and of the
 // uniqueness mark the container. The calls over
-// the whole record are in the crate `builder`.
+// the whole record are in the crate `builder`, those over state words in `ffi`.
 // Derived from `ParentState`, `ListState` and `ObjectState` of parquet-variant 60.1.0, src/builder.rs, src/builder/list.rs and
 // src/builder/object.rs (see NOTICE), as are the modules here. Changed: written in Rattle, over counts and lent slices.
 mod append;

@@ -3,7 +3,7 @@
 // src/builder/list.rs and src/builder/object.rs (see NOTICE). Changed: written in Rattle.
 use crate::Moved;
 use container::replace_offset;
-use metadata::truncate_field_names;
+use metadata::from_parts;
 use refusals::rollback_number;
 use refusals::saturating_sub;
 use semantics::Counts;
@@ -36,8 +36,7 @@ pub fn rollback_over(
     let k = v.inner;
     let p = k.parent;
     let count = undo(1 < c.depth, p, k.entries, d.place, entries);
-    let m = c.dictionary;
-    let cut = truncate_field_names(m, k.names, k.text);
+    let cut = from_parts(k.names, k.text);
     Moved {
         counts: Counts {
             value: k.value,

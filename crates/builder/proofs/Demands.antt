@@ -36,7 +36,7 @@ value r = run.made-value (chain-finished r)
 pub written : {s u : State} {cs : List Call} {d : List ℕ} → FinishedChain s cs u d → (d ≡ keptDictionary s cs) × (dictionaryNames d ≡ kept s cs .names)
 written r = run.made-written (chain-finished r)
 
--- 3 Faithful. Of two such chains, value bytes and dictionary names are equal exactly when the kept records are.
+-- 3 Faithful. Of two such chains, value bytes and dictionaries are equal exactly when the kept records are.
 pub faithful : {s t u v : State} {cs ds : List Call} {d e : List ℕ} → FinishedChain s cs u d → FinishedChain t ds v e
-    → ((valueBytes u ≡ valueBytes v) × (dictionaryNames d ≡ dictionaryNames e)) ↔ (kept s cs ≡ kept t ds)
+    → ((valueBytes u ≡ valueBytes v) × (d ≡ e)) ↔ (kept s cs ≡ kept t ds)
 faithful r q = run.made-faithful (chain-finished r) (chain-finished q)

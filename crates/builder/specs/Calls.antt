@@ -59,8 +59,8 @@ finishCalledBy o = record { answer = finishAnswer (o .number) (o .written); buil
 abbrev pub Finishes : FinishCalled → Storage → List ℕ → Outcome → Type 0
 Finishes r after out o = (r ≡ finishCalledBy o) × (after ≡ o .state .storage) × (out ≡ o .output) × (finishNumber (r .answer) ≡ o .number) × (bytesWritten (r .answer) ≡ o .written)
 
--- document 01, "A fresh builder: nothing used or open, the sorted mark off, no finish accepted, either uniqueness mark". Its
--- containers, which are left free, are all empty.
+-- document 01, "A fresh builder: nothing used or open, .. no finish accepted, either uniqueness mark". Its containers, which are left
+-- free, are all empty.
 unfoldable pub freshOf : Bool → Builder
 freshOf u =
     record { containers = replicate 64 noContainer; counts = freshCounts u }

@@ -1,4 +1,4 @@
--- The state words: 584 numbers, and the builder that they mean. Any words mean one: a flag is "not 0".
+-- The state words: 583 numbers, and the builder that they mean. Any words mean one: a flag is "not 0".
 use mathlib.Core.Path.{_≡_}
 use mathlib.Core.Bool.{Bool, false, cond, not}
 use mathlib.Core.List.{List, [], _∷_}
@@ -15,7 +15,7 @@ use Rattle.semantics.specs.declared.ParentEntry.the-variants.{New, Replaced}
 use Rattle.semantics.specs.Record.{Storage, State, Call, register, append, openIn, close, rollBack, uniqueness, finish, containerAt, viewOf}
 use Rattle.semantics.specs.Step.{step}
 use mathlib.Core.Option.{Option}
-use Rattle.metadata.specs.Names.{Name, fieldNames, isSorted, textSize}
+use Rattle.metadata.specs.Names.{Name, fieldNames, textSize}
 use Rattle.refusals.specs.Decide.{enterRows}
 use Rattle.actions.specs.declared.enter.Entered.{Entered}
 use Rattle.actions.specs.Actions.{EntersBy}
@@ -28,16 +28,16 @@ wordAt ws i = getD ws i 0
 abbrev pub flag : ℕ → Bool
 flag x = not (eqb x 0)
 
--- words 0 to 7
+-- words 0 to 6
 unfoldable pub countsOf : List ℕ → Counts
 countsOf ws =
     record {
       value = wordAt ws 0;
       entries = wordAt ws 1;
       depth = wordAt ws 2;
-      dictionary = fromParts (wordAt ws 3) (wordAt ws 4) (flag (wordAt ws 5));
-      unique = flag (wordAt ws 6);
-      finished = flag (wordAt ws 7);
+      dictionary = fromParts (wordAt ws 3) (wordAt ws 4);
+      unique = flag (wordAt ws 5);
+      finished = flag (wordAt ws 6);
     }
 
 -- a parent's entry: a tag (0 is "new"), an id and an offset, which count where the tag is not 0
@@ -59,7 +59,7 @@ containerFrom ws p =
 
 -- the container at depth i, counted from 0
 abbrev pub containerOf : List ℕ → ℕ → Container
-containerOf ws i = containerFrom ws (8 + 9 * i)
+containerOf ws i = containerFrom ws (7 + 9 * i)
 
 -- n containers from depth i on
 unfoldable pub containersFrom : List ℕ → ℕ → ℕ → List Container
@@ -95,14 +95,11 @@ abbrev pub offsetOf : ParentEntry → ℕ
 offsetOf New = 0
 offsetOf (Replaced id offset) = offset
 
--- words 0 to 7
+-- words 0 to 6
 abbrev pub countsPut : List ℕ → Counts → List ℕ
 countsPut ws c =
     set
-    (set
-    (set (set (set (set (set (set ws 0 (c .value)) 1 (c .entries)) 2 (c .depth)) 3 (fieldNames (c .dictionary))) 4 (textSize (c .dictionary))) 5 (wordOf (isSorted (c .dictionary)))) 6
-    (wordOf (c .unique)))
-    7
+    (set (set (set (set (set (set ws 0 (c .value)) 1 (c .entries)) 2 (c .depth)) 3 (fieldNames (c .dictionary))) 4 (textSize (c .dictionary))) 5 (wordOf (c .unique))) 6
     (wordOf (c .finished))
 
 -- nine words from place p on
@@ -123,7 +120,7 @@ containerPut ws p k =
 
 -- the container at depth d put, as it stands in a builder
 abbrev pub containerLeft : List ℕ → ℕ → Builder → List ℕ
-containerLeft ws d b = containerPut ws (8 + 9 * d) (containerAt (b .containers) d)
+containerLeft ws d b = containerPut ws (7 + 9 * d) (containerAt (b .containers) d)
 
 -- the words that a call leaves which is carried out, and b then: the counts', and those of the container that it opens or marks. All
 -- other words are as they were.
@@ -161,7 +158,7 @@ pub record PutsCounts (before after : List ℕ) (c : Counts) : Type 0 where
 
 -- a container put
 pub record PutsContainer (before after : List ℕ) (d : ℕ) (k : Container) : Type 0 where
-  pub words : after ≡ containerPut before (8 + 9 * d) k
+  pub words : after ≡ containerPut before (7 + 9 * d) k
   pub builder : builderOf after ≡ record { containers = set (containersOf before) d k; counts = countsOf before }
 
 -- a piece's number and counts put back: the counts only where the number is 0

@@ -2,7 +2,6 @@
 use crate::WORDS;
 use actions::Moved;
 use metadata::from_parts;
-use metadata::is_sorted;
 use metadata::metadata_size;
 use metadata::num_field_names;
 use semantics::Container;
@@ -24,9 +23,9 @@ fn count(words: &[usize]) -> usize
     words.len()
 }
 
-// That there are 584 is known of a slice of them.
+// That there are 583 is known of a slice of them.
 fn whole(words: &[usize; WORDS]) -> usize
-    ensures { λ r. ⌜ length (now (words .entry)) ≡ 584 ⌝ }
+    ensures { λ r. ⌜ length (now (words .entry)) ≡ 583 ⌝ }
 {
     count(words)
 }
@@ -95,9 +94,8 @@ pub(crate) fn put_counts(words: &mut [usize; WORDS], c: Counts)
     words[2] = c.depth;
     words[3] = num_field_names(m);
     words[4] = metadata_size(m);
-    words[5] = word(is_sorted(m));
-    words[6] = word(c.unique);
-    words[7] = word(c.finished);
+    words[5] = word(c.unique);
+    words[6] = word(c.finished);
 }
 
 pub(crate) fn put_container(words: &mut [usize; WORDS], d: usize, k: Container)
@@ -105,7 +103,7 @@ pub(crate) fn put_container(words: &mut [usize; WORDS], d: usize, k: Container)
     ensures { λ _. ⌜ PutsContainer (now (words .entry)) (now (words .exit)) d k ⌝ }
 {
     whole(words);
-    let p = 8 + 9 * d;
+    let p = 7 + 9 * d;
     let e = k.parent;
     words[p] = k.value;
     words[p + 1] = k.names;
@@ -121,14 +119,14 @@ pub(crate) fn put_container(words: &mut [usize; WORDS], d: usize, k: Container)
 pub(crate) fn counts_of(words: &[usize; WORDS]) -> Counts
     ensures { λ r. ⌜ r ≡ countsOf (now (words .entry)) ⌝ }
 {
-    let m = from_parts(words[3], words[4], flag(words[5]));
+    let m = from_parts(words[3], words[4]);
     Counts {
         value: words[0],
         entries: words[1],
         depth: words[2],
         dictionary: m,
-        unique: flag(words[6]),
-        finished: flag(words[7]),
+        unique: flag(words[5]),
+        finished: flag(words[6]),
     }
 }
 
@@ -138,7 +136,7 @@ fn container_at(words: &[usize; WORDS], d: usize) -> Container
     if 64 <= d {
         return no_container();
     }
-    let p = 8 + 9 * d;
+    let p = 7 + 9 * d;
     let e = parent_entry(words[p + 4], words[p + 5], words[p + 6]);
     Container {
         value: words[p],
@@ -211,8 +209,8 @@ fn under(words: &[usize; WORDS], i: usize) -> bool
     requires { ⌜ i < 64 ⌝ }
     ensures { λ r. ⌜ r ≡ underOf (containerAt (containersOf (now (words .entry))) (i - 1)) (containerAt (containersOf (now (words .entry))) i) ⌝ }
 {
-    let p = 8 + 9 * (i - 1);
-    let q = 8 + 9 * i;
+    let p = 7 + 9 * (i - 1);
+    let q = 7 + 9 * i;
     (words[p] <= words[q])
         & ((words[p + 1] <= words[q + 1])
             & ((words[p + 2] <= words[q + 2]) & (words[p + 3] <= words[q + 3])))

@@ -18,7 +18,7 @@ use Rattle.semantics.specs.Record.{State, viewOf, fixed, bytes, uuid, Ca
 use Rattle.semantics.specs.Step.{step, after, finished, dictionaryOf}
 use Rattle.semantics.specs.Tree.{Tree, encode}
 use Rattle.semantics.specs.Ledger.{Lent, Account, refusalOf, refusalRows}
-use Rattle.semantics.specs.Run.{Fresh, FinishedRun, AcceptedFinish, run, valueBytes, dictionaryBytes, runNames, kept, sortedMark, keptDictionary, accountOf, lentBy}
+use Rattle.semantics.specs.Run.{Fresh, FinishedRun, AcceptedFinish, run, valueBytes, dictionaryBytes, runNames, kept, keptDictionary, accountOf, lentBy}
 use Rattle.semantics.proofs.Demand1.{step-number}
 use Rattle.semantics.proofs.Machine.{anyOpen}
 use Rattle.semantics.proofs.Refinement.{represents-value, represents-dictionary, WritesDictionary, represents-finish}
@@ -59,7 +59,7 @@ module _ (s : State) (cs : List Call) (r : FinishedRun s cs) where
   abbrev last : Call
   last = finish (run-ends r .out)
 
-  at-last : Follows (lentBy (s .storage)) found (accountOf s (run-ends r .before)) (sortedMark s (run-ends r .before))
+  at-last : Follows (lentBy (s .storage)) found (accountOf s (run-ends r .before))
   at-last = follows-run s (run-ends r .before) (r .fresh)
 
   -- the dictionary that the state gives
@@ -76,13 +76,9 @@ module _ (s : State) (cs : List Call) (r : FinishedRun s cs) where
   unfolding kept
   last-names = at-last .linked .names ∙ ap (λ z. z .names) (sym (run-history r))
 
-  last-mark : at-last .machine .sorted ≡ sortedMark s cs
-  unfolding sortedMark
-  last-mark = at-last .markAgrees ∙ sym (run-ends r .sorted)
-
-  -- the dictionary that the machine's names and mark give
-  last-dictionary : dictionary (at-last .machine .sorted) (at-last .machine .names) ≡ keptDictionary s cs
-  last-dictionary = λ i. dictionary (last-mark i) (last-names i)
+  -- the dictionary that the machine's names give
+  last-dictionary : dictionary (at-last .machine .names) ≡ keptDictionary s cs
+  last-dictionary = ap dictionary last-names
 
   -- few enough for ids of four bytes, since their dictionary was written
   pub names-few : length (kept s cs .names) ≤ 256 ^ 4

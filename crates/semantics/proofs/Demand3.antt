@@ -1,5 +1,5 @@
--- Demand 3 over the definitions: two finished runs have equal value bytes and dictionary names exactly when their kept records
--- are equal.
+-- Demand 3 over the definitions: two finished runs have equal value bytes and dictionary bytes exactly when their kept records
+-- are equal; the same of the names that stand in the dictionary.
 use mathlib.Core.Path.{_≡_, sym, _∙_, ap}
 use mathlib.Core.Logic.{_↔_}
 use mathlib.Core.List.{List}
@@ -8,10 +8,11 @@ use Prim.Native.Nat.{_^_, _≤_}
 use native.Mathlib.Omega.{arith}
 use lib.ListN.{length}
 use Rattle.metadata.specs.Names.{Name}
+use Rattle.metadata.specs.Bytes.{dictionary, dictionaryNames}
 use Rattle.semantics.specs.Record.{State, Call}
 use Rattle.semantics.specs.Tree.{Tree, encode}
 use Rattle.semantics.specs.History.{Kept}
-use Rattle.semantics.specs.Run.{FinishedRun, run, valueBytes, runNames, kept}
+use Rattle.semantics.specs.Run.{FinishedRun, run, valueBytes, dictionaryBytes, runNames, kept}
 use Rattle.semantics.proofs.TreeLaws.{Sound, tree-inj}
 use Rattle.semantics.proofs.HistoryLaws.{kept-sound}
 use Rattle.semantics.proofs.Refinement.{represents-value}
@@ -32,10 +33,10 @@ sound s cs r =
 same-tree : (ms ns : List Name) (t u : Tree) → ms ≡ ns → length ns ≤ 256 ^ 4 → Sound ms t → Sound ns u → encode ms t ≡ encode ns u → t ≡ u
 same-tree ms ns t u p few h k e = tree-inj ns few t u (rw p at h) k (rw p at e)
 
--- FAITHFUL: one claim about two runs, with no condition but that each is finished from a fresh builder.
-pub demand3 : (s t : State) (cs ds : List Call) → FinishedRun s cs → FinishedRun t ds
+-- Over the names: equal names give one kept record, whatever else the dictionaries hold.
+pub demand3-names : (s t : State) (cs ds : List Call) → FinishedRun s cs → FinishedRun t ds
     → ((valueBytes (run s cs) ≡ valueBytes (run t ds)) × (runNames s cs ≡ runNames t ds)) ↔ (kept s cs ≡ kept t ds)
-demand3 s t cs ds r q = (forward, backward)
+demand3-names s t cs ds r q = (forward, backward)
   where
     forward : (valueBytes (run s cs) ≡ valueBytes (run t ds)) × (runNames s cs ≡ runNames t ds) → kept s cs ≡ kept t ds
     forward e =
@@ -52,3 +53,14 @@ demand3 s t cs ds r q = (forward, backward)
         let w = value t ds q in
         let tree = Option·some-injective (v .0) (w .0) (sym (v .1) ∙ (ap (λ (k : Kept). k .top) e ∙ w .1)) in
         (v .2 ∙ ((λ i. encode (e i .names) (tree i)) ∙ sym (w .2)), written s cs r .names ∙ (ap (λ (k : Kept). k .names) e ∙ sym (written t ds q .names)))
+
+-- FAITHFUL: one claim about two runs, with no condition but that each is finished from a fresh builder. Every byte counts: equal
+-- dictionary bytes hold equal names, and the bytes are those of the kept names.
+pub demand3 : (s t : State) (cs ds : List Call) → FinishedRun s cs → FinishedRun t ds
+    → ((valueBytes (run s cs) ≡ valueBytes (run t ds)) × (dictionaryBytes s cs ≡ dictionaryBytes t ds)) ↔ (kept s cs ≡ kept t ds)
+unfolding runNames
+demand3 s t cs ds r q =
+    let n = demand3-names s t cs ds r q in (
+      (λ e. n .0 (e .0, ap dictionaryNames (e .1))),
+      (λ e. (n .1 e .0, written s cs r .dictionary ∙ (ap (λ (k : Kept). dictionary (k .names)) e ∙ sym (written t ds q .dictionary)))),
+    )

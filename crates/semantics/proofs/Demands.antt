@@ -64,11 +64,17 @@ account = bytes.account
 pub used : (s : State) (cs : List Call) → Fresh (s .builder) → run s cs .builder .counts .value ≡ length (valueBytes (run s cs))
 used = bytes.used
 
--- 3 Faithful. For every two lists of calls, each finished from a fresh builder: value bytes and dictionary names are equal
--- exactly when the kept records are equal. One claim about two runs.
+-- 3 Faithful. For every two lists of calls, each finished from a fresh builder: value bytes and dictionary are equal exactly when
+-- the kept records are equal. One claim about two runs. Document 02, A3: "Equality of two runs by their kept records now takes in every
+-- dictionary byte."
 pub faithful : (s t : State) (cs ds : List Call) → FinishedRun s cs → FinishedRun t ds
-    → ((valueBytes (run s cs) ≡ valueBytes (run t ds)) × (runNames s cs ≡ runNames t ds)) ↔ (kept s cs ≡ kept t ds)
+    → ((valueBytes (run s cs) ≡ valueBytes (run t ds)) × (dictionaryBytes s cs ≡ dictionaryBytes t ds)) ↔ (kept s cs ≡ kept t ds)
 faithful = three.demand3
+
+-- so that the dictionary's names alone are enough
+pub faithful-names : (s t : State) (cs ds : List Call) → FinishedRun s cs → FinishedRun t ds
+    → ((valueBytes (run s cs) ≡ valueBytes (run t ds)) × (runNames s cs ≡ runNames t ds)) ↔ (kept s cs ≡ kept t ds)
+faithful-names = three.demand3-names
 
 -- 2 and 3 of calls made. "Each call gets the builder that the last one returned or left, and the same storage as it was left": of
 -- calls made so, u is what the last one left, and d the dictionary in the output of the accepted finish.
@@ -83,5 +89,5 @@ pub made-written : {s u : State} {cs : List Call} {d : List ℕ} → FinishedCal
 made-written = calls.made-written
 
 pub made-faithful : {s t u v : State} {cs ds : List Call} {d e : List ℕ} → FinishedCalls s cs u d → FinishedCalls t ds v e
-    → ((valueBytes u ≡ valueBytes v) × (dictionaryNames d ≡ dictionaryNames e)) ↔ (kept s cs ≡ kept t ds)
+    → ((valueBytes u ≡ valueBytes v) × (d ≡ e)) ↔ (kept s cs ≡ kept t ds)
 made-faithful = calls.made-faithful

@@ -23,16 +23,16 @@ use Rattle.semantics.specs.Record.{Call, register, append, openIn, close
 use Rattle.semantics.specs.Damage.{orphaned}
 use Rattle.semantics.specs.Table.{scalarRows, badName}
 use Rattle.semantics.specs.Step.{withUnique}
-use Rattle.semantics.specs.History.{withName, markWith}
+use Rattle.semantics.specs.History.{withName}
 use Rattle.semantics.specs.Ledger.{Lent, fullFor}
 
--- the used value bytes, the names held, the used entries, the open containers (the innermost first), and the marks
+-- the used value bytes, the names held, the used entries, the open containers (the innermost first), the uniqueness mark, and whether it is
+-- finished
 pub record Machine : Type 0 where
   pub bytes : List ℕ
   pub names : List Name
   pub entries : List Entry
   pub conts : List Container
-  pub sorted : Bool
   pub unique : Bool
   pub finished : Bool
 
@@ -79,9 +79,9 @@ headerOf ns object es size =
 
 -- ---- what a call that is carried out does
 
-abbrev pub with : Machine → List ℕ → List Name → List Entry → List Container → Bool → Machine
-with m bs ns es ks sorted =
-    record { bytes = bs; names = ns; entries = es; conts = ks; sorted = sorted; unique = m .unique; finished = m .finished }
+abbrev pub with : Machine → List ℕ → List Name → List Entry → List Container → Machine
+with m bs ns es ks =
+    record { bytes = bs; names = ns; entries = es; conts = ks; unique = m .unique; finished = m .finished }
 
 abbrev pub uniqueAt : Machine → List Container → Bool
 uniqueAt m [] = m .unique
@@ -92,21 +92,21 @@ closeAt m [] = m
 closeAt m (k ∷ ks) =
     let body = drop (k .value) (m .bytes) in
     with m (take (k .value) (m .bytes) ++ (headerOf (m .names) (k .object) (drop (k .entries) (m .entries)) (length body) ++ body)) (m .names)
-    (take (k .entries) (m .entries)) ks (m .sorted)
+    (take (k .entries) (m .entries)) ks
 
 abbrev pub rollAt : Machine → List Container → Machine
 rollAt m [] = m
-rollAt m (k ∷ ks) = with m (take (k .value) (m .bytes)) (take (k .names) (m .names)) (undo ks (k .parent) (take (k .entries) (m .entries))) ks (m .sorted)
+rollAt m (k ∷ ks) = with m (take (k .value) (m .bytes)) (take (k .names) (m .names)) (undo ks (k .parent) (take (k .entries) (m .entries))) ks
 
 abbrev pub markAt : Bool → List Container → List Container
 markAt u [] = []
 markAt u (k ∷ ks) = withUnique k u ∷ ks
 
 unfoldable pub apply : Machine → Call → Machine
-apply m (register n) = with m (m .bytes) (withName (m .names) (some n)) (m .entries) (m .conts) (markWith (m .names) (m .sorted) (some n))
+apply m (register n) = with m (m .bytes) (withName (m .names) (some n)) (m .entries) (m .conts)
 apply m (append nm x) =
     let ns = withName (m .names) nm in
-    with m (m .bytes ++ scalarBytes (scalarOf x)) ns (note ns (m .conts) nm (length (m .bytes)) (m .entries)) (m .conts) (markWith (m .names) (m .sorted) nm)
+    with m (m .bytes ++ scalarBytes (scalarOf x)) ns (note ns (m .conts) nm (length (m .bytes)) (m .entries)) (m .conts)
 apply m (openIn nm object) =
     let ns = withName (m .names) nm in
     let es = note ns (m .conts) nm (length (m .bytes)) (m .entries) in
@@ -120,12 +120,11 @@ apply m (openIn nm object) =
       object = object;
       unique = uniqueAt m (m .conts);
     } ∷ m .conts)
-    (markWith (m .names) (m .sorted) nm)
 apply m close = closeAt m (m .conts)
 apply m rollBack = rollAt m (m .conts)
-apply m (uniqueness u) = with m (m .bytes) (m .names) (m .entries) (markAt u (m .conts)) (m .sorted)
+apply m (uniqueness u) = with m (m .bytes) (m .names) (m .entries) (markAt u (m .conts))
 apply m (finish out) =
-    record { bytes = m .bytes; names = m .names; entries = m .entries; conts = m .conts; sorted = m .sorted; unique = m .unique; finished = true }
+    record { bytes = m .bytes; names = m .names; entries = m .entries; conts = m .conts; unique = m .unique; finished = true }
 
 -- ---- rows 2 to 16 of the table
 

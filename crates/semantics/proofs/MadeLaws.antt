@@ -40,5 +40,6 @@ module _ {s u : State} {cs : List Call} {d : List ℕ} (r : FinishedCalls s cs u
   made-written = let w = two.written s cs made-finished in (made-dictionary (r .made) ∙ w .dictionary, made-names ∙ w .names)
 
 pub made-faithful : {s t u v : State} {cs ds : List Call} {d e : List ℕ} → FinishedCalls s cs u d → FinishedCalls t ds v e
-    → ((valueBytes u ≡ valueBytes v) × (dictionaryNames d ≡ dictionaryNames e)) ↔ (kept s cs ≡ kept t ds)
-made-faithful {s} {t} {u} {v} {cs} {ds} r q = rw (made-run (r .made), made-run (q .made), made-names r, made-names q) (three.demand3 s t cs ds (made-finished r) (made-finished q))
+    → ((valueBytes u ≡ valueBytes v) × (d ≡ e)) ↔ (kept s cs ≡ kept t ds)
+made-faithful {s} {t} {u} {v} {cs} {ds} r q =
+    rw (made-run (r .made), made-run (q .made), made-dictionary (r .made), made-dictionary (q .made)) (three.demand3 s t cs ds (made-finished r) (made-finished q))

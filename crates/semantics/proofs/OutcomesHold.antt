@@ -8,9 +8,8 @@ use Rattle.encoding.specs.Utf8.{table, follow, rest, utf8}
 use Rattle.encoding.specs.Rows.{first}
 use Rattle.encoding.specs.Slices.{write, shift}
 use Rattle.value.specs.Scalar.{scalarBytes}
-use Rattle.metadata.specs.Names.{cuts, namesOf, risen, intact, same, place, below}
+use Rattle.metadata.specs.Names.{cuts, namesOf, risen, intact, same, place, below, ascending, sorted}
 use Rattle.metadata.specs.Bytes.{joined, endsFrom, laidOut, dictionary, numbers, namesIn, dictionaryNames}
-use Rattle.metadata.specs.Calls.{marked}
 use Rattle.container.specs.Layout.{listHeaderAt, listHeader, objectHeaderAt, largest, objectHeader}
 use Rattle.container.specs.Entries.{entriesOf, putEntries, seek, misplaced}
 use Rattle.container.specs.Sort.{insert, sort}
@@ -28,5 +27,5 @@ use Rattle.semantics.specs.Run.{run, accountAfter, refused, valueBytes, 
 use Rattle.semantics.specs.Outcomes.{outcomes, encoded, sameNames, accounted, gives, allGive}
 
 pub outcomes-hold : allGive outcomes ≡ true
-unfolding width le les number twos whole table follow rest utf8 write shift scalarBytes cuts namesOf risen intact same place below joined endsFrom laidOut dictionary marked listHeaderAt listHeader objectHeaderAt largest objectHeader entriesOf putEntries seek misplaced insert sort fronted overUsed rising chained unchained fallenEnds misplacedInner misplacedParent damagedParent header first numberOf registered appended opened newContainer entriesClosed closed rolledBack finished dictionaryOf after step steps.withUnique run valueBytes dictionaryBytes numbers namesIn dictionaryNames runNames refused historyFrom historyOf kept withName unlive replace snoc entered enter closeLevel dropLevel accepted fed dataOf startsFrom withField fieldsFrom listBytes objectBytes encode partsOf itemCount liveIds isLive noLedger addTo total headerSize ledger.sumsEntered ledgerAfter marksAfter entriesUsed refusalOf accountAfter accounted outcomes encoded sameNames gives allGive
+unfolding width le les number twos whole table follow rest utf8 write shift scalarBytes cuts namesOf risen intact same place below joined endsFrom laidOut dictionary ascending sorted listHeaderAt listHeader objectHeaderAt largest objectHeader entriesOf putEntries seek misplaced insert sort fronted overUsed rising chained unchained fallenEnds misplacedInner misplacedParent damagedParent header first numberOf registered appended opened newContainer entriesClosed closed rolledBack finished dictionaryOf after step steps.withUnique run valueBytes dictionaryBytes numbers namesIn dictionaryNames runNames refused historyFrom historyOf kept withName unlive replace snoc entered enter closeLevel dropLevel accepted fed dataOf startsFrom withField fieldsFrom listBytes objectBytes encode partsOf itemCount liveIds isLive noLedger addTo total headerSize ledger.sumsEntered ledgerAfter marksAfter entriesUsed refusalOf accountAfter accounted outcomes encoded sameNames gives allGive
 outcomes-hold = refl

@@ -16,9 +16,9 @@ use Rattle.encoding.specs.Slices.{counted, fits, write}
 use Rattle.encoding.proofs.SliceLaws.{length-write}
 use Rattle.value.specs.Scalar.{scalarBytes}
 use Rattle.metadata.specs.declared.MetadataBuilder.{MetadataBuilder}
-use Rattle.metadata.specs.Names.{Name, below, place, fieldNames, isSorted, textSize}
+use Rattle.metadata.specs.Names.{Name, below, place, fieldNames, textSize}
 use Rattle.metadata.specs.Bytes.{dictionary, dictionaryNames, joined, sizeOf}
-use Rattle.metadata.specs.Calls.{hasRoom, added, marked}
+use Rattle.metadata.specs.Calls.{hasRoom, added}
 use Rattle.metadata.proofs.BytesLaws.{intact-parts, dictionary-size, dictionary-read, size-least}
 use Rattle.metadata.proofs.DictionaryLaws.{Kept, place-low, place-added, kept-fresh, kept-added, kept-back, room}
 use Rattle.container.specs.declared.Entry.{Entry}
@@ -36,7 +36,7 @@ use Rattle.semantics.specs.Damage.{overUsed, unchained, fallenEnds, misp
 use Rattle.semantics.specs.Table.{scalarRows, rows, numberOf, misnamed, badName, idOf, held, live, liveUnder, namesFull, entriesFull, tooLong as tooLongFor, header}
 use Rattle.semantics.specs.Step.{dictionaryWith, textWith, endsWith, idFor, entriesWith, countWith, parentWith, registered, appended, opened, newContainer, entriesClosed, closed, entriesBack, countBack, rolledBack, finished, dictionaryOf, after}
 use Rattle.semantics.specs.Step as step
-use Rattle.semantics.specs.History.{withName, markWith}
+use Rattle.semantics.specs.History.{withName}
 use Rattle.semantics.specs.Ledger.{fullFor}
 use Rattle.semantics.specs.Run.{Fresh, lentBy, valueBytes}
 use Rattle.semantics.proofs.Demand1.{none-at, append-at}
@@ -51,7 +51,6 @@ pub record Stored (c : Counts) (l : Storage) (m : Machine) : Type 0 where
   pub bytes : take (c .value) (l .value) ≡ m .bytes
   pub within : c .value ≤ counted (length (l .value))
   pub names : Kept (c .dictionary) (l .text) (l .ends) (m .names)
-  pub sorted : isSorted (c .dictionary) ≡ m .sorted
   pub entries : Used (l .entries) (c .entries) (m .entries)
   pub unique : c .unique ≡ m .unique
   pub finished : c .finished ≡ m .finished
@@ -305,15 +304,10 @@ represents-number r o c = sees-number (sees r o) o c
 -- ---- a name given
 
 -- the dictionary then, and what the lent lists are
-record Named (d : MetadataBuilder) (text ends : List ℕ) (l : Storage) (ns : List Name) (mark : Bool) : Type 0 where
+record Named (d : MetadataBuilder) (text ends : List ℕ) (l : Storage) (ns : List Name) : Type 0 where
   kept : Kept d text ends ns
-  sorted : isSorted d ≡ mark
   text-size : length text ≡ length (l .text)
   ends-size : length ends ≡ length (l .ends)
-
-first-mark : (n : ℕ) (t : Bool) → cond (eqb n 0) true t ≡ cond (ltb 0 n) t true
-first-mark zero t = refl
-first-mark (suc n) t = rw (ne-eqb (suc n) 0 (λ q. omega arith), lt-ltb 0 (suc n) (omega arith))
 
 -- a name that may be new has its place where it is looked for
 place-with : (n : Name) (ns : List Name) → place n (withName ns (some n)) ≡ place n ns
@@ -325,9 +319,9 @@ place-with n ns = go (ltb (place n ns) (length ns)) refl
     go false e = let q : place n ns ≡ length ns = omega (arith, ltb-false (place n ns) (length ns) e, place-low n ns) in place-added n ns q ∙ sym q
 
 module _ {v : View} {l : Storage} {m : Machine} (s : Sees v l m) where
-  names-with : (nm : Option Name) → namesFull v l nm ≡ false → Named (dictionaryWith v l nm) (textWith v l nm) (endsWith v l nm) l (withName (m .names) nm) (markWith (m .names) (m .sorted) nm)
-  unfolding withName markWith marked
-  names-with none h = record { kept = s .stored .names; sorted = s .stored .sorted; text-size = refl; ends-size = refl }
+  names-with : (nm : Option Name) → namesFull v l nm ≡ false → Named (dictionaryWith v l nm) (textWith v l nm) (endsWith v l nm) l (withName (m .names) nm)
+  unfolding withName
+  names-with none h = record { kept = s .stored .names; text-size = refl; ends-size = refl }
   names-with (some n) h = rw (held-law s n) (go (ltb (place n ns) (length ns)) refl (rw (held-law s n) at h))
     where
       d : MetadataBuilder
@@ -337,16 +331,15 @@ module _ {v : View} {l : Storage} {m : Machine} (s : Sees v l m) where
       ns = m .names
 
       go : (t : Bool) → ltb (place n ns) (length ns) ≡ t → (not t && not (hasRoom d (l .text) (l .ends) n)) ≡ false
-          → Named (cond t d (added d (l .text) (l .ends) n)) (cond t (l .text) (write (textSize d) n (l .text))) (cond t (l .ends) (set (l .ends) (fieldNames d) (textSize d + length n))) l
-          (cond t ns (ns ++ (n ∷ []))) (cond t (m .sorted) (cond (ltb 0 (length ns)) (m .sorted && below (getD ns (length ns - 1) []) n) true))
-      go true e h = record { kept = s .stored .names; sorted = s .stored .sorted; text-size = refl; ends-size = refl }
+          → Named (cond t d (added d n)) (cond t (l .text) (write (textSize d) n (l .text))) (cond t (l .ends) (set (l .ends) (fieldNames d) (textSize d + length n))) l
+          (cond t ns (ns ++ (n ∷ [])))
+      go true e h = record { kept = s .stored .names; text-size = refl; ends-size = refl }
       go false e h =
           let r = not-false (hasRoom d (l .text) (l .ends) n) h in
           let b = room d (l .text) (l .ends) n r in
           let q : place n ns ≡ length ns = omega (arith, ltb-false (place n ns) (length ns) e, place-low n ns) in
           record {
             kept = kept-added n (s .stored .names) q r;
-            sorted = (λ i. cond (eqb (many-law s i) 0) true (s .stored .sorted i && below (getD (names-law s i) (many-law s i - 1) []) n)) ∙ first-mark (length ns) _;
             text-size = (let c = b .inText in length-write (textSize d) n (l .text) (omega arith));
             ends-size = length-set (l .ends) (fieldNames d) (textSize d + length n);
           }
@@ -491,13 +484,13 @@ module _ {v : View} {l : Storage} {m : Machine} (s : Sees v l m) where
   register-law n h =
       let t = s .stored in
       let w = names-with s (some n) h in
-      record { value = t .value; bytes = t .bytes; within = t .within; names = w .kept; sorted = w .sorted; entries = t .entries; unique = t .unique; finished = t .finished }
+      record { value = t .value; bytes = t .bytes; within = t .within; names = w .kept; entries = t .entries; unique = t .unique; finished = t .finished }
 
   finish-law : (out : List ℕ) → Stored (finished (v .counts)) l (apply m (finish out))
   unfolding finished apply
   finish-law out =
       let t = s .stored in
-      record { value = t .value; bytes = t .bytes; within = t .within; names = t .names; sorted = t .sorted; entries = t .entries; unique = t .unique; finished = refl }
+      record { value = t .value; bytes = t .bytes; within = t .within; names = t .names; entries = t .entries; unique = t .unique; finished = refl }
 
   module _ (o : Orderly m) where
     append-law : (nm : Option Name) (x : Scalars) → Admits v l nm → tooLongFor v l (length (scalarBytes (scalarOf x))) ≡ false
@@ -513,7 +506,6 @@ module _ {v : View} {l : Storage} {m : Machine} (s : Sees v l m) where
           bytes = take-write (v .counts .value) bs (l .value) (omega arith) ∙ ap (λ z. z ++ bs) (t .bytes);
           within = rw (length-write (v .counts .value) bs (l .value) (omega arith)) f;
           names = w .kept;
-          sorted = w .sorted;
           entries = entries-with s o nm (a .named) (a .free);
           unique = t .unique;
           finished = t .finished;
@@ -524,7 +516,7 @@ module _ {v : View} {l : Storage} {m : Machine} (s : Sees v l m) where
     open-stored nm object a =
         let t = s .stored in
         let w = names-with s nm (a .full) in
-        record { value = t .value; bytes = t .bytes; within = t .within; names = w .kept; sorted = w .sorted; entries = entries-with s o nm (a .named) (a .free); unique = t .unique; finished = t .finished }
+        record { value = t .value; bytes = t .bytes; within = t .within; names = w .kept; entries = entries-with s o nm (a .named) (a .free); unique = t .unique; finished = t .finished }
 
     open-container : (nm : Option Name) (object : Bool) → Admits v l nm → newContainer v l nm object ∷ m .conts ≡ apply m (openIn nm object) .conts
     unfolding newContainer apply
@@ -611,7 +603,6 @@ module _ {v : View} {l : Storage} {m : Machine} (s : Sees v l m) (o : Orderly m)
         bytes = all;
         within = rw n room;
         names = t .names;
-        sorted = t .sorted;
         entries = rw (← i .is) (closed-entries (v .inner .object) (v .inner .entries) _ (used s) (i .entries));
         unique = t .unique;
         finished = t .finished;
@@ -660,7 +651,6 @@ module _ {v : View} {l : Storage} {m : Machine} (s : Sees v l m) (o : Orderly m)
         bytes = bs;
         within = omega arith;
         names = rw (x, y) (kept-back (take (k .names) (m .names)) (drop (k .names) (m .names)) whole (length-take-le (k .names) (m .names) (omega arith)) (sym (placed .1)));
-        sorted = t .sorted;
         entries = roll-entries k ks e;
         unique = t .unique;
         finished = t .finished;
@@ -679,7 +669,7 @@ back-size false p v l = refl
 
 -- a fresh builder represents the machine with nothing in it
 pub represents-fresh : (s : State) → Fresh (s .builder)
-    → Represents s (record { bytes = []; names = []; entries = []; conts = []; sorted = false; unique = s .builder .counts .unique; finished = false })
+    → Represents s (record { bytes = []; names = []; entries = []; conts = []; unique = s .builder .counts .unique; finished = false })
 unfolding entriesOf stackOf
 represents-fresh s f =
     record {
@@ -688,7 +678,6 @@ represents-fresh s f =
         bytes = rw (f .value);
         within = rw (f .value) (omega arith);
         names = rw (f .dictionary) (kept-fresh (s .storage .text) (s .storage .ends));
-        sorted = ap (λ d. d .sorted) (f .dictionary);
         entries = record { all = rw (f .entries); room = rw (f .entries) (omega arith) };
         unique = refl;
         finished = f .finished;
@@ -771,7 +760,7 @@ module _ {s : State} {m : Machine} (r : Represents s m) (o : Orderly m) where
   represents-step (uniqueness u) h =
       let t = r .stored in
       record {
-        stored = record { value = t .value; bytes = t .bytes; within = t .within; names = t .names; sorted = t .sorted; entries = t .entries; unique = t .unique; finished = t .finished };
+        stored = record { value = t .value; bytes = t .bytes; within = t .within; names = t .names; entries = t .entries; unique = t .unique; finished = t .finished };
         stack = remarked u (m .conts) refl (sym (in-law seen) ∙ not-false _ (clear (uniqueness u) h 3));
         size = length-set (s .builder .containers) (s .builder .counts .depth - 1) (step.withUnique (view .inner) u) ∙ r .size;
       }
@@ -816,23 +805,23 @@ unfolding valueBytes
 represents-value r = r .stored .bytes
 
 -- the dictionary
-pub represents-dictionary : {s : State} {m : Machine} → Represents s m → dictionaryOf (viewOf (s .builder)) (s .storage) ≡ dictionary (m .sorted) (m .names)
+pub represents-dictionary : {s : State} {m : Machine} → Represents s m → dictionaryOf (viewOf (s .builder)) (s .storage) ≡ dictionary (m .names)
 unfolding dictionaryOf
-represents-dictionary r i = dictionary (r .stored .sorted i) (r .stored .names .holds .names i)
+represents-dictionary r i = dictionary (r .stored .names .holds .names i)
 
 -- its size
 pub represents-size : {s : State} {m : Machine} → Represents s m → length (dictionaryOf (viewOf (s .builder)) (s .storage)) ≡ sizeOf (length (m .names)) (length (joined (m .names)))
-represents-size {m = m} r = ap length (represents-dictionary r) ∙ dictionary-size (m .sorted) (m .names)
+represents-size {m = m} r = ap length (represents-dictionary r) ∙ dictionary-size (m .names)
 
 -- what an accepted finish wrote, and nothing behind it
 pub record WritesDictionary (s : State) (m : Machine) (out : List ℕ) : Type 0 where
   pub fits : sizeOf (length (m .names)) (length (joined (m .names))) ≤ counted (length out)
   pub long : length (write 0 (dictionaryOf (viewOf (s .builder)) (s .storage)) out) ≡ length out
-  pub front : take (length (dictionaryOf (viewOf (s .builder)) (s .storage))) (write 0 (dictionaryOf (viewOf (s .builder)) (s .storage)) out) ≡ dictionary (m .sorted) (m .names)
+  pub front : take (length (dictionaryOf (viewOf (s .builder)) (s .storage))) (write 0 (dictionaryOf (viewOf (s .builder)) (s .storage)) out) ≡ dictionary (m .names)
   pub behind : drop (length (dictionaryOf (viewOf (s .builder)) (s .storage))) (write 0 (dictionaryOf (viewOf (s .builder)) (s .storage)) out) ≡ drop (length (dictionaryOf (viewOf (s .builder)) (s .storage))) out
   pub many : length (m .names) < 256 ^ 4
   pub text : length (joined (m .names)) < 256 ^ 4
-  pub read : dictionaryNames (dictionary (m .sorted) (m .names)) ≡ m .names
+  pub read : dictionaryNames (dictionary (m .names)) ≡ m .names
 
 pub represents-finish : {s : State} {m : Machine} → Represents s m → (out : List ℕ) → numberOf (viewOf (s .builder)) (s .storage) (finish out) ≡ 0 → WritesDictionary s m out
 represents-finish {s} {m} r out h =
@@ -851,5 +840,5 @@ represents-finish {s} {m} r out h =
       behind = rw zero-add at (drop-write 0 bs out (omega arith));
       many = a;
       text = b;
-      read = dictionary-read (m .sorted) ns a b;
+      read = dictionary-read ns a b;
     }

@@ -11,13 +11,13 @@ use Rattle.encoding.specs.Rows.{first, testOf, Clear, order, inOrder}
 use Rattle.encoding.proofs.RowsLaws.{first-none, clear-at}
 use Rattle.semantics.specs.Record.{State, viewOf, fixed, bytes, uuid, Call, register, append, openIn, close, rollBack, uniqueness, finish}
 use Rattle.semantics.specs.Step.{step, after, outputOf, writtenBy}
-use Rattle.semantics.specs.History.{accepted, fed, markAfter}
+use Rattle.semantics.specs.History.{accepted, fed}
 use Rattle.semantics.specs.Ledger.{Lent, Account, refusalOf}
-use Rattle.semantics.specs.Run.{Fresh, FinishedRun, run, refused, isFinish, dictionaryBytes, historyFrom, historyOf, markFrom, sortedMark, noAccount, accountAfter, accountFrom, accountOf, lentBy}
+use Rattle.semantics.specs.Run.{Fresh, FinishedRun, run, refused, isFinish, dictionaryBytes, historyFrom, historyOf, noAccount, accountAfter, accountFrom, accountOf, lentBy}
 use Rattle.semantics.proofs.Demand1.{step-number, number-leaves}
 use Rattle.semantics.proofs.Machine.{Machine, apply, rowsAt, numberAt}
 use Rattle.semantics.proofs.Refinement.{Represents, represents-fresh, represents-number, represents-step, represents-lent}
-use Rattle.semantics.proofs.Simulation.{Linked, linked-fresh, linked-step, linked-number, linked-orderly, linked-mark, linked-refused, account-refused}
+use Rattle.semantics.proofs.Simulation.{Linked, linked-fresh, linked-step, linked-number, linked-orderly, linked-refused, account-refused}
 
 -- ---- a call that is carried out
 
@@ -51,26 +51,24 @@ refused-one s c n e = rw e
 
 -- ---- the relation
 
--- a state beside an account and the sorted mark, over so much lent storage
-pub record Follows (lent : Lent) (s : State) (a : Account) (mark : Bool) : Type 0 where
+-- a state beside an account, over so much lent storage
+pub record Follows (lent : Lent) (s : State) (a : Account) : Type 0 where
   pub machine : Machine
   pub represents : Represents s machine
   pub linked : Linked machine a
-  pub markAgrees : machine .sorted ≡ mark
   pub room : lentBy (s .storage) ≡ lent
 
 -- A FRESH BUILDER
-pub follows-fresh : (s : State) → Fresh (s .builder) → Follows (lentBy (s .storage)) s (noAccount (s .builder .counts .unique)) false
+pub follows-fresh : (s : State) → Fresh (s .builder) → Follows (lentBy (s .storage)) s (noAccount (s .builder .counts .unique))
 follows-fresh s f =
     record {
-      machine = record { bytes = []; names = []; entries = []; conts = []; sorted = false; unique = s .builder .counts .unique; finished = false };
+      machine = record { bytes = []; names = []; entries = []; conts = []; unique = s .builder .counts .unique; finished = false };
       represents = represents-fresh s f;
       linked = linked-fresh (s .builder .counts .unique);
-      markAgrees = refl;
       room = refl;
     }
 
-module _ {lent : Lent} {s : State} {a : Account} {mark : Bool} (x : Follows lent s a mark) where
+module _ {lent : Lent} {s : State} {a : Account} (x : Follows lent s a) where
   -- the machine's number
   pub follows-at : (c : Call) → step s c .number ≡ numberAt (x .machine) lent c
   follows-at c = step-number s c ∙ (represents-number (x .represents) (linked-orderly (x .linked)) c ∙ ap (λ l. numberAt (x .machine) l c) (x .room))
@@ -88,11 +86,11 @@ module _ {lent : Lent} {s : State} {a : Account} {mark : Bool} (x : Follows lent
   follows-none c e n = clear-at n (rowsAt (x .machine) lent c) (follows-clear c e)
 
   -- THE STEP
-  pub follows-step : (c : Call) → Follows lent (step s c .state) (accountAfter a c (refused s c)) (markAfter (a .history) mark c (refused s c))
-  unfolding refused markAfter
+  pub follows-step : (c : Call) → Follows lent (step s c .state) (accountAfter a c (refused s c))
+  unfolding refused
   follows-step c = go (eqb (step s c .number) 0) refl
     where
-      go : (t : Bool) → eqb (step s c .number) 0 ≡ t → Follows lent (step s c .state) (accountAfter a c (not t)) (markAfter (a .history) mark c (not t))
+      go : (t : Bool) → eqb (step s c .number) 0 ≡ t → Follows lent (step s c .state) (accountAfter a c (not t))
       go true p =
           let e = eqb-true (step s c .number) 0 p in
           let n = sym (step-number s c) ∙ e in
@@ -101,25 +99,24 @@ module _ {lent : Lent} {s : State} {a : Account} {mark : Bool} (x : Follows lent
             machine = apply (x .machine) c;
             represents = represents-step (x .represents) o c n;
             linked = linked-step (x .linked) lent c (follows-clear c e);
-            markAgrees = linked-mark (x .linked) c ∙ ap (λ b. markAfter (a .history) b c false) (x .markAgrees);
             room = represents-lent (x .represents) o c n ∙ x .room;
           })
       go false p =
           let e = number-leaves s c (eqb-false (step s c .number) 0 p) .0 in
-          rw e (record { machine = x .machine; represents = x .represents; linked = linked-refused (x .linked) c; markAgrees = x .markAgrees; room = x .room })
+          rw e (record { machine = x .machine; represents = x .represents; linked = linked-refused (x .linked) c; room = x .room })
 
 -- ---- every list of calls
 
 -- from any state and account that follow each other
-pub follows-from : {lent : Lent} {s : State} {a : Account} {mark : Bool} → Follows lent s a mark → (cs : List Call)
-    → Follows lent (run s cs) (accountFrom a s cs) (markFrom (a .history) mark s cs)
-unfolding run accountFrom markFrom accountAfter
+pub follows-from : {lent : Lent} {s : State} {a : Account} → Follows lent s a → (cs : List Call)
+    → Follows lent (run s cs) (accountFrom a s cs)
+unfolding run accountFrom accountAfter
 follows-from x [] = x
 follows-from x (c ∷ cs) = follows-from (follows-step x c) cs
 
 -- THE RUN: after every list of calls from a fresh builder.
-pub follows-run : (s : State) (cs : List Call) → Fresh (s .builder) → Follows (lentBy (s .storage)) (run s cs) (accountOf s cs) (sortedMark s cs)
-unfolding accountOf sortedMark
+pub follows-run : (s : State) (cs : List Call) → Fresh (s .builder) → Follows (lentBy (s .storage)) (run s cs) (accountOf s cs)
+unfolding accountOf
 follows-run s cs f = follows-from (follows-fresh s f) cs
 
 history-from : (a : Account) (s : State) (cs : List Call) → accountFrom a s cs .history ≡ historyFrom (a .history) s cs
@@ -146,23 +143,22 @@ finished-number a lent (uniqueness u) e = rw e
 finished-number a lent (finish out) e = rw e
 
 -- so that nothing changes any more
-pub record Stays (s : State) (a : Account) (mark : Bool) (cs : List Call) : Type 0 where
+pub record Stays (s : State) (a : Account) (cs : List Call) : Type 0 where
   pub state : run s cs ≡ s
   pub account : accountFrom a s cs ≡ a
-  pub sorted : markFrom (a .history) mark s cs ≡ mark
 
-stays : {lent : Lent} {s : State} {a : Account} {mark : Bool} → Follows lent s a mark → a .finished ≡ true → (cs : List Call) → Stays s a mark cs
-unfolding run accountFrom markFrom markAfter fed
-stays x f [] = record { state = refl; account = refl; sorted = refl }
-stays {lent} {s} {a} {mark} x f (c ∷ cs) =
+stays : {lent : Lent} {s : State} {a : Account} → Follows lent s a → a .finished ≡ true → (cs : List Call) → Stays s a cs
+unfolding run accountFrom fed
+stays x f [] = record { state = refl; account = refl }
+stays {lent} {s} {a} x f (c ∷ cs) =
     let n = follows-number x c ∙ finished-number a lent c f in
     let r = refused-one s c 2 n in
     let e = number-leaves s c (λ z. omega (arith, n, z)) .0 in
     let y = stays x f cs in
-    record { state = rw e (y .state); account = rw (r, e, account-refused a c) (y .account); sorted = rw (r, e) (y .sorted) }
+    record { state = rw e (y .state); account = rw (r, e, account-refused a c) (y .account) }
 
--- the accepted finish of a list of calls, from a state with an account and a mark
-pub record Ends (s : State) (a : Account) (mark : Bool) (cs : List Call) : Type 0 where
+-- the accepted finish of a list of calls, from a state with an account
+pub record Ends (s : State) (a : Account) (cs : List Call) : Type 0 where
   pub before : List Call
   pub out : List ℕ
   pub after : List Call
@@ -170,13 +166,12 @@ pub record Ends (s : State) (a : Account) (mark : Bool) (cs : List Call) : Type 
   pub number : step (run s before) (finish out) .number ≡ 0
   pub state : run s cs ≡ step (run s before) (finish out) .state
   pub history : accountFrom a s cs .history ≡ accountFrom a s before .history
-  pub sorted : markFrom (a .history) mark s cs ≡ markFrom (a .history) mark s before
   pub dictionary : dictionaryBytes s cs ≡ take (step (run s before) (finish out) .written) (step (run s before) (finish out) .output)
 
 -- a call that is no accepted finish comes before it
-ends-later : {s : State} {a : Account} {mark : Bool} {c : Call} {cs : List Call} → (isFinish c && eqb (step s c .number) 0) ≡ false
-    → Ends (step s c .state) (accountAfter a c (refused s c)) (markAfter (a .history) mark c (refused s c)) cs → Ends s a mark (c ∷ cs)
-unfolding run accountFrom markFrom dictionaryBytes accountAfter
+ends-later : {s : State} {a : Account} {c : Call} {cs : List Call} → (isFinish c && eqb (step s c .number) 0) ≡ false
+    → Ends (step s c .state) (accountAfter a c (refused s c)) cs → Ends s a (c ∷ cs)
+unfolding run accountFrom dictionaryBytes accountAfter
 ends-later {c = c} e x =
     record {
       before = c ∷ x .before;
@@ -186,20 +181,19 @@ ends-later {c = c} e x =
       number = x .number;
       state = x .state;
       history = x .history;
-      sorted = x .sorted;
       dictionary = rw e (x .dictionary);
     }
 
-ends-here : {lent : Lent} {s : State} {a : Account} {mark : Bool} → Follows lent s a mark → (c : Call) (cs : List Call) → (isFinish c && eqb (step s c .number) 0) ≡ true
-    → Ends s a mark (c ∷ cs)
-unfolding run accountFrom markFrom dictionaryBytes accountAfter markAfter fed accepted
+ends-here : {lent : Lent} {s : State} {a : Account} → Follows lent s a → (c : Call) (cs : List Call) → (isFinish c && eqb (step s c .number) 0) ≡ true
+    → Ends s a (c ∷ cs)
+unfolding run accountFrom dictionaryBytes accountAfter fed accepted
 ends-here x (register n) cs e = absurd (true≢false (sym e))
 ends-here x (append nm v) cs e = absurd (true≢false (sym e))
 ends-here x (openIn nm k) cs e = absurd (true≢false (sym e))
 ends-here x close cs e = absurd (true≢false (sym e))
 ends-here x rollBack cs e = absurd (true≢false (sym e))
 ends-here x (uniqueness u) cs e = absurd (true≢false (sym e))
-ends-here {s = s} {a = a} {mark} x (finish out) cs e =
+ends-here {s = s} {a = a} x (finish out) cs e =
     let c = finish out in
     let n = eqb-true (step s c .number) 0 e in
     let r = refused-one s c 0 n in
@@ -212,7 +206,6 @@ ends-here {s = s} {a = a} {mark} x (finish out) cs e =
       number = n;
       state = y .state;
       history = ap (λ z. z .history) (y .account) ∙ ap (λ z. fed (a .history) c z) r;
-      sorted = y .sorted ∙ ap (λ z. markAfter (a .history) mark c z) r;
       dictionary = rw e;
     }
   where
@@ -221,11 +214,11 @@ ends-here {s = s} {a = a} {mark} x (finish out) cs e =
     over false = refl
 
 -- THE FINISH: a run that is finished, and was not before, has an accepted finish.
-pub ends : {lent : Lent} {s : State} {a : Account} {mark : Bool} → Follows lent s a mark → a .finished ≡ false → (cs : List Call) → run s cs .builder .counts .finished ≡ true
-    → Ends s a mark cs
+pub ends : {lent : Lent} {s : State} {a : Account} → Follows lent s a → a .finished ≡ false → (cs : List Call) → run s cs .builder .counts .finished ≡ true
+    → Ends s a cs
 unfolding run accountAfter refused
 ends x f [] e = absurd (true≢false (sym e ∙ (x .represents .stored .finished ∙ (x .linked .finished ∙ f))))
-ends {s = s} {a = a} {mark} x f (c ∷ cs) e = go (isFinish c && eqb (step s c .number) 0) refl (λ g. ends (follows-step x c) g cs e)
+ends {s = s} {a = a} x f (c ∷ cs) e = go (isFinish c && eqb (step s c .number) 0) refl (λ g. ends (follows-step x c) g cs e)
   where
     twice : (t : Bool) → not (not t) ≡ t
     twice true = refl
@@ -233,13 +226,13 @@ ends {s = s} {a = a} {mark} x f (c ∷ cs) e = go (isFinish c && eqb (step s c .
 
     go : (t : Bool) → (isFinish c && eqb (step s c .number) 0) ≡ t
         → ((a .finished || (isFinish c && not (not (eqb (step s c .number) 0)))) ≡ false
-        → Ends (step s c .state) (accountAfter a c (refused s c)) (markAfter (a .history) mark c (refused s c)) cs)
-        → Ends s a mark (c ∷ cs)
+        → Ends (step s c .state) (accountAfter a c (refused s c)) cs)
+        → Ends s a (c ∷ cs)
     go true p h = ends-here x c cs p
     go false p h = ends-later p (h (rw (f, twice (eqb (step s c .number) 0)) p))
 
 -- of a finished run
-pub run-ends : {s : State} {cs : List Call} → FinishedRun s cs → Ends s (noAccount (s .builder .counts .unique)) false cs
+pub run-ends : {s : State} {cs : List Call} → FinishedRun s cs → Ends s (noAccount (s .builder .counts .unique)) cs
 run-ends {s} {cs} r = ends (follows-fresh s (r .fresh)) refl cs (r .finished)
 
 -- its history is that before the finish

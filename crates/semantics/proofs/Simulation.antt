@@ -21,7 +21,7 @@ use Rattle.semantics.specs.Record.{Scalars, Call, register, append, open
 use Rattle.semantics.specs.Table.{scalarRows}
 use Rattle.semantics.specs.Step.{withUnique}
 use Rattle.semantics.specs.Tree.{Tree, scalar, encode}
-use Rattle.semantics.specs.History.{Level, History, withName, closeLevel, dropLevel, accepted, fed, markWith, markAfter}
+use Rattle.semantics.specs.History.{Level, History, withName, closeLevel, dropLevel, accepted, fed}
 use Rattle.semantics.specs.Ledger.{Lent, Account, noLedger, total, innerSum, headerSize, ledgerAfter, marksAfter, markNow, refusalOf, refusalRows, sumsEntered as summed}
 use Rattle.semantics.specs.Ledger as ledger
 use Rattle.semantics.specs.Run.{isFinish, noAccount, accountAfter}
@@ -193,7 +193,7 @@ pub record Linked (m : Machine) (a : Account) : Type 0 where
 
 -- A FRESH BUILDER
 pub linked-fresh : (unique : Bool)
-    → Linked (record { bytes = []; names = []; entries = []; conts = []; sorted = false; unique = unique; finished = false }) (noAccount unique)
+    → Linked (record { bytes = []; names = []; entries = []; conts = []; unique = unique; finished = false }) (noAccount unique)
 unfolding noLedger
 linked-fresh unique =
     record {
@@ -485,28 +485,6 @@ linked-top {m} {a} x e = (linked-shut x e .0, λ h. go (a .history .top) (linked
 -- the trees are well formed
 pub linked-formed : {m : Machine} {a : Account} → Linked m a → WellFormed (a .history)
 linked-formed x = x .formed
-
--- the sorted mark is the history's
-pub linked-mark : {m : Machine} {a : Account} → Linked m a → (c : Call) → apply m c .sorted ≡ markAfter (a .history) (m .sorted) c false
-unfolding apply markAfter
-linked-mark {m} {a} x c = go c
-  where
-    closed : (ks : List Container) → closeAt m ks .sorted ≡ m .sorted
-    closed [] = refl
-    closed (k ∷ ks) = refl
-
-    rolled : (ks : List Container) → rollAt m ks .sorted ≡ m .sorted
-    rolled [] = refl
-    rolled (k ∷ ks) = refl
-
-    go : (c : Call) → apply m c .sorted ≡ markAfter (a .history) (m .sorted) c false
-    go (register n) = ap (λ ns. markWith ns (m .sorted) (some n)) (x .names)
-    go (append nm v) = ap (λ ns. markWith ns (m .sorted) nm) (x .names)
-    go (openIn nm object) = ap (λ ns. markWith ns (m .sorted) nm) (x .names)
-    go close = closed (m .conts)
-    go rollBack = rolled (m .conts)
-    go (uniqueness u) = refl
-    go (finish out) = refl
 
 -- a refused call changes no account
 pub account-refused : (a : Account) (c : Call) → accountAfter a c true ≡ a

@@ -89,21 +89,3 @@ pub record Kept : Type 0 where
 
 abbrev pub keptOf : History → Kept
 keptOf h = record { top = h .top; names = h .names }
-
--- ---- the sorted mark, in document 01's words: "starts off; each added name sets it if it is the only name, else keeps it
--- only if the name is above the one before"; rolling back "doesn't touch the mark"
-
-unfoldable pub markWith : List Name → Bool → Option Name → Bool
-markWith ns mark none = mark
-markWith ns mark (some n) =
-    cond (ltb (place n ns) (length ns)) mark (cond (ltb 0 (length ns)) (mark && below (getD ns (length ns - 1) []) n) true)
-
-unfoldable pub markAfter : History → Bool → Call → Bool → Bool
-markAfter h mark c true = mark
-markAfter h mark (register n) false = markWith (h .names) mark (some n)
-markAfter h mark (append nm v) false = markWith (h .names) mark nm
-markAfter h mark (openIn nm k) false = markWith (h .names) mark nm
-markAfter h mark close false = mark
-markAfter h mark rollBack false = mark
-markAfter h mark (uniqueness u) false = mark
-markAfter h mark (finish out) false = mark

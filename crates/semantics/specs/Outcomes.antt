@@ -80,12 +80,12 @@ outcomes =
     ∷ (outcomeOff (object none ∷ field 0x61 1 ∷ list (some (0x61 ∷ [])) ∷ rollBack ∷ close ∷ [])
     (0x02 ∷ 0x01 ∷ 0x00 ∷ 0x00 ∷ 0x02 ∷ 0x0c ∷ 0x01 ∷ [])
     (0x11 ∷ 0x01 ∷ 0x00 ∷ 0x01 ∷ 0x61 ∷ [])
-    -- 11 object, b = 1, all rolled back, null
-    ∷ (outcome (object none ∷ field 0x62 1 ∷ rollBack ∷ append none null ∷ []) (0x00 ∷ []) (0x11 ∷ 0x00 ∷ 0x00 ∷ [])
-    -- 12 object b = int8 1, a list under a rolled back, c = int8 2
+    -- 11 object, b = 1, all rolled back, null; document 02, A3: "Outcome 11 becomes dictionary `010000`"
+    ∷ (outcome (object none ∷ field 0x62 1 ∷ rollBack ∷ append none null ∷ []) (0x00 ∷ []) (0x01 ∷ 0x00 ∷ 0x00 ∷ [])
+    -- 12 object b = int8 1, a list under a rolled back, c = int8 2; A3: "outcome 12 `11020001026263`"
     ∷ (outcome (object none ∷ field 0x62 1 ∷ list (some (0x61 ∷ [])) ∷ rollBack ∷ field 0x63 2 ∷ close ∷ [])
     (0x02 ∷ 0x02 ∷ 0x00 ∷ 0x01 ∷ 0x00 ∷ 0x02 ∷ 0x04 ∷ 0x0c ∷ 0x01 ∷ 0x0c ∷ 0x02 ∷ [])
-    (0x01 ∷ 0x02 ∷ 0x00 ∷ 0x01 ∷ 0x02 ∷ 0x62 ∷ 0x63 ∷ [])
+    (0x11 ∷ 0x02 ∷ 0x00 ∷ 0x01 ∷ 0x02 ∷ 0x62 ∷ 0x63 ∷ [])
     ∷ [])))))))))))
 
 -- a fresh builder of a uniqueness mark and storage that are not blank, and have room for the largest outcome and no more

@@ -14,9 +14,10 @@ use Rattle.semantics.specs.declared.Counts.{Counts}
 use Rattle.semantics.specs.Record.{Storage, State, Call, register, append, openIn, close, rollBack, uniqueness, finish}
 use Rattle.semantics.specs.Step.{step}
 use Rattle.semantics.specs.Ledger.{Account, Lent, noLedger, ledgerAfter, marksAfter}
-use Rattle.semantics.specs.History.{History, noHistory, fed, Kept, keptOf, markAfter}
+use Rattle.semantics.specs.History.{History, noHistory, fed, Kept, keptOf}
 
--- document 01, "A fresh builder: nothing used or open, the sorted mark off, no finish accepted, either uniqueness mark"
+-- document 01, "A fresh builder: nothing used or open, .. no finish accepted, either uniqueness mark"; since document 02's A3 it has no
+-- sorted mark
 pub record Fresh (b : Builder) : Type 0 where
   pub value : b .counts .value ≡ 0
   pub entries : b .counts .entries ≡ 0
@@ -96,17 +97,9 @@ historyOf s cs = historyFrom noHistory s cs
 unfoldable pub kept : State → List Call → Kept
 kept s cs = keptOf (historyOf s cs)
 
--- the sorted mark, folded over the accepted calls
-unfoldable pub markFrom : History → Bool → State → List Call → Bool
-markFrom h mark s [] = mark
-markFrom h mark s (c ∷ cs) = markFrom (fed h c (refused s c)) (markAfter h mark c (refused s c)) (step s c .state) cs
-
-unfoldable pub sortedMark : State → List Call → Bool
-sortedMark s cs = markFrom noHistory false s cs
-
--- the dictionary of the kept names, with that mark
+-- the dictionary of the kept names
 abbrev pub keptDictionary : State → List Call → List ℕ
-keptDictionary s cs = bytes.dictionary (sortedMark s cs) (kept s cs .names)
+keptDictionary s cs = bytes.dictionary (kept s cs .names)
 
 -- the accepted finish of a run: it is one of the calls, "writes only the dictionary", and nothing changes after it
 pub record AcceptedFinish (s : State) (cs : List Call) : Type 0 where

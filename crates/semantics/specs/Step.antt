@@ -7,9 +7,9 @@ use lib.Dec.{eqb, ltb}
 use lib.ListN.{length, set}
 use Rattle.encoding.specs.Slices.{write}
 use Rattle.value.specs.Scalar.{scalarBytes}
-use Rattle.metadata.specs.Names.{Name, fieldNames, isSorted, textSize}
+use Rattle.metadata.specs.Names.{Name, fieldNames, textSize}
 use Rattle.metadata.specs.Bytes.{dictionary}
-use Rattle.metadata.specs.Calls.{added, truncated}
+use Rattle.metadata.specs.Calls.{added, fromParts}
 use Rattle.metadata.specs.declared.MetadataBuilder.{MetadataBuilder}
 use Rattle.container.specs.Entries.{entryAt, putEntries, seek, setEntry}
 use Rattle.container.specs.Sort.{sort}
@@ -26,7 +26,7 @@ use Rattle.semantics.specs.Table.{idOf, held, liveUnder, newEntry, heade
 
 abbrev pub dictionaryWith : View → Storage → Option Name → MetadataBuilder
 dictionaryWith v l none = v .counts .dictionary
-dictionaryWith v l (some n) = cond (held v l n) (v .counts .dictionary) (added (v .counts .dictionary) (l .text) (l .ends) n)
+dictionaryWith v l (some n) = cond (held v l n) (v .counts .dictionary) (added (v .counts .dictionary) n)
 
 abbrev pub textWith : View → Storage → Option Name → List ℕ
 textWith v l none = l .text
@@ -143,7 +143,7 @@ rolledBack v l =
     let k = v .inner in
     let below = ltb 1 (c .depth) in
     record {
-      counts = withCounts c (k .value) (cond below (countBack (k .entries) (k .parent)) (k .entries)) (c .depth - 1) (truncated (c .dictionary) (k .names) (k .text));
+      counts = withCounts c (k .value) (cond below (countBack (k .entries) (k .parent)) (k .entries)) (c .depth - 1) (fromParts (k .names) (k .text));
       storage = storageOf (l .value) (l .text) (l .ends) (cond below (entriesBack v l (k .parent)) (l .entries));
     }
 
@@ -156,7 +156,7 @@ finished c = record { value = c .value; entries = c .entries; depth = c .depth; 
 
 -- "finish writes only the dictionary"
 unfoldable pub dictionaryOf : View → Storage → List ℕ
-dictionaryOf v l = dictionary (isSorted (v .counts .dictionary)) (namesHeld v l)
+dictionaryOf v l = dictionary (namesHeld v l)
 
 abbrev pub carriedOut : View → Storage → Call → Left
 carriedOut v l (register n) = registered v l n

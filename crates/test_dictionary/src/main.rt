@@ -1,16 +1,16 @@
-// The finished dictionaries of a few lists of names: for each its size and its first 16 bytes. The last two have no names: whether
-// they were ever used is told from their bytes.
+// The finished dictionaries of a few lists of names: for each its size and its first 16 bytes. Of the last three it is told from
+// their bytes whether they were ever used.
 // The file `stdout` was not made by this program. The same names were registered, or given to fields of an object that was
-// rolled back where the list says "cut", and finished, in a model of document 01 written apart from this code and in
-// parquet-variant 60.1.0 itself, with equal bytes.
+// rolled back where the list says "cut", and finished, in a model of documents 01 and 02 written apart from this code and in
+// parquet-variant 60.1.0 itself, with equal bytes, but for the sorted mark where names were cut: there the model alone has it so.
 use libc::STDOUT_FILENO;
 use metadata::Finished;
 use metadata::MetadataBuilder;
 use metadata::add_field_name;
 use metadata::finish;
+use metadata::from_parts;
 use metadata::is_never_used;
 use metadata::new;
-use metadata::truncate_field_names;
 
 fn main() {
     few();
@@ -47,9 +47,9 @@ fn cut() {
     let mut ends = [0usize; 4];
     let b = with(new(), &mut text, &mut ends, b"b");
     let two = with(b, &mut text, &mut ends, b"a");
-    let again = with(truncate_field_names(two, 1, 1), &mut text, &mut ends, b"c");
+    let again = with(from_parts(1, 1), &mut text, &mut ends, b"c");
     line(b"b, a, cut to b, c", again, &text, &ends);
-    let none = truncate_field_names(b, 0, 0);
+    let none = from_parts(0, 0);
     line(b"b, cut to none", none, &text, &ends);
     let other = with(none, &mut text, &mut ends, b"a");
     line(b"b, cut to none, a", other, &text, &ends);
@@ -83,23 +83,31 @@ fn long(label: &[u8], n: usize) {
     line(label, m, &text, &ends);
 }
 
-// Two dictionaries without names: a fresh one, and one whose only name was cut.
+// A fresh dictionary, one whose only name was cut, and one of the empty name.
 fn unnamed() {
     let mut text = [0u8; 1];
     let mut ends = [0usize; 1];
     told(new(), &text, &ends);
-    let b = with(new(), &mut text, &mut ends, b"b");
-    told(truncate_field_names(b, 0, 0), &text, &ends);
+    with(new(), &mut text, &mut ends, b"b");
+    told(from_parts(0, 0), &text, &ends);
+    let empty = with(new(), &mut text, &mut ends, b"");
+    told(empty, &text, &ends);
 }
 
 // "never used" where the bytes written are those of such a dictionary, else "used".
 fn told(m: MetadataBuilder, text: &[u8], ends: &[usize]) {
-    let mut out = [0u8; 3];
-    finish(m, text, ends, &mut out);
-    if is_never_used(&out) {
-        line(b"never used", m, text, ends);
-    } else {
-        line(b"used", m, text, ends);
+    let mut out = [0u8; 4];
+    match finish(m, text, ends, &mut out) {
+        Finished::Written(n) => {
+            if is_never_used(front(&out, n)) {
+                line(b"never used", m, text, ends);
+            } else {
+                line(b"used", m, text, ends);
+            }
+        }
+        _ => {
+            print::text(b"refused\n");
+        }
     }
 }
 

@@ -5,7 +5,6 @@ use container::Entry;
 use container::put_entry;
 use encoding::slices::write_slice;
 use metadata::from_parts;
-use metadata::is_sorted;
 use metadata::metadata_size;
 use metadata::num_field_names;
 use semantics::Builder;
@@ -38,13 +37,14 @@ fn counts(before: Counts, which: u8, n: usize) -> Counts {
     let m = c.dictionary;
     match which {
         0 => c.value = n,
-        1 => c.dictionary = from_parts(n, metadata_size(m), is_sorted(m)),
-        2 => c.dictionary = from_parts(num_field_names(m), n, is_sorted(m)),
+        1 => c.dictionary = from_parts(n, metadata_size(m)),
+        2 => c.dictionary = from_parts(num_field_names(m), n),
         3 => c.entries = n,
         4 => c.depth = n,
         5 => c.unique = n == 1,
-        6 => c.dictionary = from_parts(num_field_names(m), metadata_size(m), n == 1),
-        _ => c.finished = n == 1,
+        7 => c.finished = n == 1,
+        // The record has no sorted mark to set.
+        _ => c.dictionary = m,
     }
     c
 }

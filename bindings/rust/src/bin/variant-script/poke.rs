@@ -4,9 +4,12 @@ use crate::session::hex;
 use std::fmt::Write;
 use variant_writer::{Storage, VariantBuilder};
 
-/// The counts and the marks, with their places, in the order of a dump.
+/// The counts with their places, in the order of a dump, and the places of the marks.
 const COUNTS: [(&str, usize); 5] = [("value_used", 0), ("names_used", 3), ("namebytes_used", 4), ("entries_used", 1), ("open", 2)];
-const MARKS: [(&str, usize); 3] = [("unique", 6), ("sorted", 5), ("finished", 7)];
+const UNIQUE_MARK: usize = 5;
+const FINISHED: usize = 6;
+/// Where the containers begin.
+const CONTAINERS: usize = 7;
 const VALUE: usize = 0;
 const OPEN: usize = 2;
 const NAMES: usize = 3;
@@ -18,7 +21,7 @@ const UNIQUE: usize = 8;
 
 /// Where the nine words of container i begin.
 fn place(i: usize) -> usize {
-    8 + 9 * i
+    CONTAINERS + 9 * i
 }
 
 pub fn poke(b: &mut VariantBuilder, words: &[&str]) -> Expected<()> {
@@ -26,11 +29,14 @@ pub fn poke(b: &mut VariantBuilder, words: &[&str]) -> Expected<()> {
     let at = |table: &[(&str, usize)]| table.iter().find(|(key, _)| *key == what).map(|(_, at)| *at);
     if let Some(at) = at(&COUNTS) {
         b.words_mut()[at] = number(rest, 0)?;
-    } else if let Some(at) = at(&MARKS) {
-        b.words_mut()[at] = mark(rest, 0)?;
+    } else if let "unique" | "finished" = what {
+        b.words_mut()[if what == "unique" { UNIQUE_MARK } else { FINISHED }] = mark(rest, 0)?;
+    } else if what == "sorted" {
+        // the record has no such mark: the line is taken, and changes nothing
+        mark(rest, 0)?;
     } else if what == "container" {
         let i = number(rest, 0)?;
-        let nine = b.words_mut().get_mut(8..).and_then(|w| w.chunks_mut(9).nth(i)).ok_or("a container from 0 to 63")?;
+        let nine = b.words_mut().get_mut(CONTAINERS..).and_then(|w| w.chunks_mut(9).nth(i)).ok_or("a container from 0 to 63")?;
         container(nine, &rest[1..])?;
     } else {
         storage(b.storage_mut(), what, rest)?;
@@ -124,9 +130,8 @@ pub fn dump(b: &mut VariantBuilder, out: &mut String) {
     for (key, at) in COUNTS {
         write!(out, " {key}={}", words[at]).unwrap_or_default();
     }
-    for (key, at) in MARKS {
-        write!(out, " {key}={}", u8::from(words[at] != 0)).unwrap_or_default();
-    }
+    let flag = |at: usize| u8::from(words[at] != 0);
+    write!(out, " unique={} sorted=- finished={}", flag(UNIQUE_MARK), flag(FINISHED)).unwrap_or_default();
     for i in 0..words[OPEN].min(64) {
         dump_container(i, &words[place(i)..place(i + 1)], out);
     }

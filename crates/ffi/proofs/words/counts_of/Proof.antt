@@ -7,7 +7,7 @@ returns : tie.Need-returns
 unfolding countsOf
 returns c =
     let m = c .before .before .before .before .before .before .before in
-    rw (m .from-parts .ensures, m .before .flag .ensures, c .before .before .flag2 .ensures, c .flag3 .ensures)
+    rw (m .from-parts .ensures, c .before .before .flag .ensures, c .flag2 .ensures)
 
 pub counts-of-spec : {M : Type 1} → statement M
 counts-of-spec =
@@ -15,8 +15,6 @@ counts-of-spec =
     (tie.spec
     (λ c. search needs)
     (λ c. search needs)
-    (λ c. search needs)
-    (λ c κs. search needs)
     (λ c κs. search needs)
     (λ c. search needs)
     (λ c. search needs)

@@ -6,11 +6,10 @@ use Rattle.ffi.proofs.words.put_counts.Tie as tie
 
 returns : tie.Need-returns
 returns c =
-    let w = c .before .before in
-    let t = w .before .before in
+    let t = c .before .before in
     let l = t .before .before .before .whole .ensures in
     let a = t .before .before .before .before .before .args in
-    rw (t .before .num-field-names .ensures, t .metadata-size .ensures, w .word .ensures, w .before .is-sorted .ensures, c .before .word2 .ensures, c .word3 .ensures)
+    rw (t .before .num-field-names .ensures, t .metadata-size .ensures, c .before .word .ensures, c .word2 .ensures)
     (put-counts (a .words .now) (a .c) (omega arith))
 
 pub put-counts-spec : {M : Type 1} → statement M
@@ -23,9 +22,6 @@ put-counts-spec =
     (λ c. search needs)
     (λ c κs. search needs)
     (λ c. search needs)
-    (λ c κs. search needs)
-    (λ c. search needs)
-    (λ c κs. search needs)
     (λ c κs. search needs)
     (λ c. search needs)
     (λ c κs. search needs)

@@ -13,7 +13,7 @@ and of finish the output. Steps come from
   more or less, one mark turned, one byte or number more or less lent .., chosen where the number
   changes. If the one has number n and the other a later one or none, the other just misses n;
 - all one-off steps of a few states in which everything that number 1 asks just holds;
-- written cases: 64 open, the widths' and ranges' edges, numbers to 2^64 - 1.
+- written cases: 64 open, the widths' and ranges' edges, at each floor, numbers to 2^64 - 1.
 
 Each step becomes an antt term; a module shows `faults steps ≡ []` by refl: the places of the steps
 that differ. All that document 01 fixes is compared whole. Of what it leaves free: the freed
@@ -40,6 +40,13 @@ BAD_NAMES = [b"\xff", b"\xc3", b"a\x80", b"\xed\xa0\x80", b"\xe0\x9f\xbf", b"\xf
 EDGE_TEXTS = [b"\xc2\x80", b"\xdf\xbf", b"\xe0\xa0\x80", b"\xed\x9f\xbf", b"\xee\x80\x80", b"\xef\xbf\xbf",
               b"\xf0\x90\x80\x80", b"\xf4\x8f\xbf\xbf", b"\xf3\xbf\xbf\xbf", b"\x7f", b"\x00"]
 TOP = 2**64 - 1
+FLOORS = (1, 2, 3, 4)
+BAD_FLOORS = (0, 5, 6, TOP)
+
+
+def floors(model):
+    """Those that a builder may have: by A10 four, else one."""
+    return FLOORS if "A10" in model.on else (1,)
 
 
 def twin(b):
@@ -72,7 +79,7 @@ class Step:
     def key_of(b):
         r, s = b.r, b.s
         return repr((r.value_used, r.names_used, r.namebytes_used, r.entries_used, r.open, r.unique,
-                     r.finished, r.containers[:r.open], s.value, s.namebytes, s.nameends, s.entries))
+                     r.finished, r.floor, r.containers[:r.open], s.value, s.namebytes, s.nameends, s.entries))
 
     def key(self):
         return self.key_of(self.before) + repr(self.call)
@@ -174,12 +181,15 @@ def random_poke(rng, b):
     """The words of a poke that the model's grammar has."""
     r, s = b.r, b.s
     depth = min(r.open, 64)
-    what = rng.choice(["count", "mark", "container", "container", "value", "namebytes", "nameend", "entry", "entry"])
+    what = rng.choice(["count", "mark", "container", "container", "value", "namebytes", "nameend", "entry", "entry",
+                       *["floor"] * ("A10" in b.on)])
     if what == "count":
         field = rng.choice(["value_used", "names_used", "namebytes_used", "entries_used", "open"])
         return [field, near(rng, getattr(r, field))]
     if what == "mark":
         return [rng.choice(["unique", "finished"]), rng.randrange(2)]
+    if what == "floor":
+        return ["floor", rng.choice([*FLOORS, *BAD_FLOORS])]
     if what == "container" and depth:
         i = rng.randrange(depth)
         c = r.containers[i]
@@ -210,6 +220,7 @@ def random_run(model, rng, number):
     ample = big < 0.35
     if ample:
         settings.update(unique=int(rng.random() < 0.2), value=60, namebytes=8, names=5, entries=20)
+    settings["floor"] = rng.choice([1, *floors(model)])
     b = model.fresh(settings, model.on)
     for c in b.r.containers:
         c.value = c.names = c.namebytes = c.entries = rng.randrange(3)
@@ -254,6 +265,9 @@ def one_off(before, call):
             yield lambda f=field: state(lambda b: setattr(b.r, f, getattr(b.r, f) - 1))
     for field in ("unique", "finished"):
         yield lambda f=field: state(lambda b: setattr(b.r, f, not getattr(b.r, f)))
+    for floor in (r.floor - 1, r.floor + 1) if "A10" in before.on else ():
+        if 0 <= floor <= TOP:
+            yield lambda n=floor: state(lambda b: setattr(b.r, "floor", n))
     for i in range(min(r.open, 64)):
         c = r.containers[i]
         for field in ("value", "names", "namebytes", "entries"):
@@ -336,8 +350,9 @@ def later(a, b):
 
 def written(model):
     """States and calls at the edges that random runs don't come to."""
-    def builder(value=40, namebytes=8, names=8, entries=12, fill=0):
-        return model.fresh({"unique": 0, "value": value, "namebytes": namebytes, "names": names, "entries": entries, "fill": fill}, model.on)
+    def builder(value=40, namebytes=8, names=8, entries=12, fill=0, floor=1):
+        return model.fresh({"unique": 0, "value": value, "namebytes": namebytes, "names": names, "entries": entries, "fill": fill,
+                            "floor": floor}, model.on)
 
     def after(b, *calls):
         for c in calls:
@@ -373,32 +388,17 @@ def written(model):
             for c in (b, full, live):
                 for name in (b"a", b"b", b"\xff", None):
                     yield c, ("open", name, "object")
-    # data sizes around a width's edge, in a list and in an object
-    for size in (254, 255, 256, 257):
-        for kind in ("list", "object"):
-            for room in (0, 4, 7, 8, 20):
-                b = after(builder(value=size + room), ("open", None, kind))
-                b = after(b, ("append", b"a" if kind == "object" else None, ("binary", b"\x05" * (size - 5))))
-                yield b, ("close",)
-    # counts around 255, and ids
-    for count in (254, 255, 256, 257):
-        b = builder(value=1000, entries=2 * count + 1)
-        b = after(b, ("open", None, "list"))
-        b.r.entries_used, b.r.value_used = count, count
-        b.s.entries[:2 * count] = [n for k in range(count) for n in (0, k)]
-        yield b, ("close",)
-        b = builder(value=60, names=count, namebytes=count, entries=12)
-        b = after(b, ("open", None, "object"))
-        b.s.nameends[:] = [k + 1 for k in range(count)]
-        b.s.namebytes[:] = bytes((7 * k) % 128 for k in range(count))
-        b.r.names_used, b.r.namebytes_used = count, count
-        b.r.entries_used, b.s.entries[:4] = 2, [count - 1, 0, 3, 0]
-        b.r.value_used = 2
-        yield b, ("close",)
-        b = twin(b)
-        b.r.open = b.r.entries_used = 0
-        for room in (1 + (1 if count < 256 else 2) * (count + 2) + count + d for d in (-1, 0, 1)):
-            yield b, ("finish", bytes(room))
+    for floor in floors(model):
+        yield from at_edges(builder, after, floor)
+    # nothing in them, and every floor there is at every call, finished or not
+    calls = (("append", None, ("null",)), ("append", b"a", ("null",)), ("open", None, "list"), ("close",), ("rollback",), ("unique", True),
+             ("register", b"a"), ("finish", bytes(12)))
+    for floor in (*FLOORS, *BAD_FLOORS) if "A10" in model.on else ():
+        for b in (builder(), after(builder(), ("append", None, ("null",))), after(builder(), ("open", None, "object")),
+                  after(builder(), ("open", None, "list")), after(builder(), ("append", None, ("null",)), ("finish", bytes(3)))):
+            b.r.floor = floor
+            for call in calls:
+                yield b, call
     # an object of 256 entries, all of one id or of alternating ids of equal names
     b = builder(value=1300, entries=512, names=4, namebytes=4)
     b = after(b, ("register", b"b"), ("register", b"a"), ("open", None, "object"))
@@ -448,10 +448,44 @@ def written(model):
                 yield b, call
 
 
+def at_edges(builder, after, floor):
+    """Closes and finishes at the widths' edges, with this floor."""
+    # data sizes around a width's edge, in a list and in an object
+    for size in (254, 255, 256, 257):
+        for kind in ("list", "object"):
+            name, ids = (b"a", floor) if kind == "object" else (None, 0)
+            header = 2 + ids + 2 * max(floor, 1 if size < 256 else 2)
+            for room in (0, header - 1, header, 20):
+                b = after(builder(value=size + room, floor=floor), ("open", None, kind))
+                b = after(b, ("append", name, ("binary", b"\x05" * (size - 5))))
+                yield b, ("close",)
+    # counts around 255, and ids
+    for count in (254, 255, 256, 257):
+        b = builder(value=2000, entries=2 * count + 1, floor=floor)
+        b = after(b, ("open", None, "list"))
+        b.r.entries_used, b.r.value_used = count, count
+        b.s.entries[:2 * count] = [n for k in range(count) for n in (0, k)]
+        yield b, ("close",)
+        b = builder(value=60, names=count, namebytes=count, entries=12, floor=floor)
+        b = after(b, ("open", None, "object"))
+        b.s.nameends[:] = [k + 1 for k in range(count)]
+        b.s.namebytes[:] = bytes((7 * k) % 128 for k in range(count))
+        b.r.names_used, b.r.namebytes_used = count, count
+        b.r.entries_used, b.s.entries[:4] = 2, [count - 1, 0, 3, 0]
+        b.r.value_used = 2
+        yield b, ("close",)
+        b = twin(b)
+        b.r.open = b.r.entries_used = 0
+        for room in (1 + max(floor, 1 if count < 256 else 2) * (count + 2) + count + d for d in (-1, 0, 1)):
+            yield b, ("finish", bytes(room))
+
+
 def tight(model):
     """States in which all that number 1 asks just holds: all their one-off steps are taken, for every call."""
     def base(kinds, entry, marks, fields, ends, used, room):
-        b = model.fresh({"unique": 0, "value": room[0], "namebytes": room[2], "names": room[1], "entries": 2 * room[3], "fill": 3}, model.on)
+        floor = floors(model)[-1 if room is wide else 0]
+        b = model.fresh({"unique": 0, "value": room[0], "namebytes": room[2], "names": room[1], "entries": 2 * room[3], "fill": 3,
+                         "floor": floor}, model.on)
         for i, kind in enumerate(kinds):
             value, names, text, entries = marks[i]
             b.r.containers[i] = model.Container(value=value, names=names, namebytes=text, entries=entries, kind=kind,
@@ -559,7 +593,7 @@ def state_term(b, entries):
     r, s = b.r, b.s
     containers = "(" + "".join(container_term(c) + " ∷ " for c in r.containers[:r.open]) + "[])"
     return (f"(state {r.value_used} {r.names_used} {r.namebytes_used} {r.entries_used} {r.open} {bools(r.unique)} "
-            f"{bools(r.finished)} {containers} {numbers(s.value)} {numbers(s.namebytes)} {numbers(s.nameends)} {numbers(entries)})")
+            f"{bools(r.finished)} {r.floor} {containers} {numbers(s.value)} {numbers(s.namebytes)} {numbers(s.nameends)} {numbers(entries)})")
 
 
 def step_term(step):
@@ -600,13 +634,22 @@ box value names text entries parent object unique = record { value = value; name
 abbrev pub padded : List Container → List Container
 padded cs = cs ++ replicate (64 - length cs) (box 9 8 7 6 (Replaced 5 4) true true)
 
-abbrev pub state : ℕ → ℕ → ℕ → ℕ → ℕ → Bool → Bool → List Container → List ℕ → List ℕ → List ℕ → List ℕ → State
-state value names text entries depth unique finished containers valueBytes textBytes ends numbers =
+abbrev pub state : ℕ → ℕ → ℕ → ℕ → ℕ → Bool → Bool → ℕ → List Container → List ℕ → List ℕ → List ℕ → List ℕ → State
+state value names text entries depth unique finished floor containers valueBytes textBytes ends numbers =
     record {
       builder =
           record {
             containers = containers;
-            counts = record { value = value; entries = entries; depth = depth; dictionary = record { names = names; text = text }; unique = unique; finished = finished };
+            counts =
+                record {
+                  value = value;
+                  entries = entries;
+                  depth = depth;
+                  dictionary = record { names = names; text = text };
+                  unique = unique;
+                  finished = finished;
+                  floor = floor;
+                };
           };
       storage = storageOf valueBytes textBytes ends numbers;
     }
@@ -650,7 +693,7 @@ alikeCounts c d =
     && (eqb (c .depth) (d .depth)
     && (eqb (c .dictionary .names) (d .dictionary .names)
     && (eqb (c .dictionary .text) (d .dictionary .text)
-    && (alike (c .unique) (d .unique) && alike (c .finished) (d .finished))))))
+    && (alike (c .unique) (d .unique) && (alike (c .finished) (d .finished) && eqb (c .floor) (d .floor)))))))
 
 unfoldable pub alikeStorage : Storage → Storage → Bool
 alikeStorage s t = same (s .value) (t .value) && (same (s .text) (t .text) && (same (s .ends) (t .ends) && same (s .entries) (t .entries)))
@@ -679,7 +722,7 @@ use mathlib.Core.Option.{Option, none, some}
 use Prim.Native.Nat.{ℕ}
 use lib.IntN.{pos, negsuc}
 use lib.ListN.{replicate}
-use Rattle.encoding.specs.Width.{width}
+use Rattle.encoding.specs.Width.{width, widthAt}
 use Rattle.encoding.specs.Packed.{le, les, number}
 use Rattle.encoding.specs.Signed.{twos, whole}
 use Rattle.encoding.specs.Utf8.{table, follow, rest, utf8}
@@ -697,7 +740,7 @@ use Rattle.container.specs.Close.{fronted}
 use Rattle.semantics.specs.declared.ParentEntry.the-variants.{New, Replaced}
 use Rattle.semantics.specs.Record.{fixed, bytes, uuid, register, append, openIn, close, rollBack, uniqueness, finish}
 use Rattle.semantics.specs.Record.{rising, chained}
-use Rattle.semantics.specs.Damage.{overUsed, unchained, fallenEnds, misplacedInner, misplacedParent, damagedParent}
+use Rattle.semantics.specs.Damage.{overUsed, unchained, badFloor, fallenEnds, misplacedInner, misplacedParent, damagedParent}
 use Rattle.semantics.specs.Table.{header, numberOf}
 use Rattle.semantics.specs.Step.{registered, appended, opened, newContainer, entriesClosed, closed, rolledBack, finished, dictionaryOf, after, step}
 use Rattle.semantics.specs.Step as steps
@@ -705,9 +748,9 @@ use Rattle.agree.specs.Compare.{Check, box, state, leaves, refuses, alik
 
 """
 
-UNFOLDING = ("width le les number twos whole table follow rest utf8 write shift scalarBytes cuts namesOf risen intact same place below "
+UNFOLDING = ("width widthAt le les number twos whole table follow rest utf8 write shift scalarBytes cuts namesOf risen intact same place below "
              "joined endsFrom laidOut dictionary ascending sorted listHeaderAt listHeader objectHeaderAt largest objectHeader entriesOf putEntries "
-             "seek misplaced insert sort fronted overUsed rising chained unchained fallenEnds misplacedInner misplacedParent damagedParent "
+             "seek misplaced insert sort fronted overUsed rising chained unchained badFloor fallenEnds misplacedInner misplacedParent damagedParent "
              "header first numberOf registered appended opened newContainer entriesClosed closed rolledBack finished dictionaryOf after step steps.withUnique "
              "alike alikeParents alikeContainers begins alikeCounts alikeStorage alikeStates agrees faults")
 
@@ -862,6 +905,7 @@ def main():
     print(f"{len(steps)} steps of {a.runs} runs: {sum(s.origin.startswith('run') and 'one off' not in s.origin for s in steps)} as they ran, "
           f"{sum('one off' in s.origin and 'tight' not in s.origin for s in steps)} one off, "
           f"{sum('tight' in s.origin for s in steps)} about tight states, {sum(s.origin == 'written' for s in steps)} written")
+    print("floors: " + ", ".join(f"{floor} in {n}" for floor, n in sorted(collections.Counter(s.before.r.floor for s in steps).items())))
     print("number: met, just missed")
     for n in range(17):
         print(f"{n:6}: {met[n]}" + (f", {missed[n]}" if n else ""))
@@ -884,7 +928,7 @@ def main():
         modules = modules[:a.first]
     if a.out:
         write_crate(a.out, modules)
-        print(f"add the line 'agree: run container metadata value encoding' to crates.txt of a copy of the repository,\n"
+        print(f"add the line 'agree: semantics container metadata value encoding' to crates.txt of a copy of the repository,\n"
               f"put {a.out} there as crates/agree, and run: rt check agree")
     if a.check:
         sys.exit(1 if check(a.check, modules) else 0)

@@ -145,7 +145,8 @@ class Counts:
     def __init__(self):
         self.runs, self.finished, self.model, self.oracle = (collections.Counter() for _ in range(4))
         self.left_out, self.finished_oracle, self.verbs, self.answers = (collections.Counter() for _ in range(4))
-        self.inner_names = self.inner_runs = 0
+        self.inner_names = self.inner_runs = self.not_made = self.without = 0
+        self.floors = collections.Counter()
         self.marks = collections.Counter(on=0, off=0, ignored=0)
 
     def note(self, run, places):
@@ -154,7 +155,13 @@ class Counts:
         self.inner_names += run.inner_names
         self.inner_runs += run.inner_names > 0
         for call, answer in zip(run.calls, run.answers):
-            if call[0] in CALLS:
+            if answer == "new":
+                self.floors[call[1].get("floor", 1)] += 1
+            elif call[0] == "new":
+                self.not_made += 1
+            elif answer == "no builder":
+                self.without += 1
+            elif call[0] in CALLS:
                 self.model[kind] += 1
                 self.verbs[call[0]] += 1
                 self.answers[answer if answer.startswith("refused") else "accepted"] += 1
@@ -184,6 +191,8 @@ class Counts:
         print("calls: " + ", ".join(f"{verb} {n}" for verb, n in sorted(self.verbs.items())))
         order = sorted(self.answers.items(), key=lambda p: int(p[0].split()[-1]) if " " in p[0] else 0)
         print("answers: " + ", ".join(f"{answer} {n}" for answer, n in order))
+        print("floors: " + ", ".join(f"{floor} in {n} runs" for floor, n in sorted(self.floors.items()))
+              + f"; {self.not_made} refused, then {self.without} calls, pokes and dumps without a builder")
         print(f"names registered with containers open: {self.inner_names}, in {self.inner_runs} runs")
         print(f"sorted mark of runs finished in both: compared on {self.marks['on']}, compared off {self.marks['off']}, "
               f"ignored after a roll back {self.marks['ignored']}")
@@ -266,7 +275,7 @@ def short_run(model, run, exact):
 
 def sample(model, args, per_kind=46):
     kept = []
-    for kind in [kind for kind in scripts.MAKERS if kind != "altered"]:
+    for kind in [kind for kind in scripts.MAKERS if kind not in ("widths", "altered")]:
         number = found = 0
         while found < per_kind:
             lines = short_run(model, scripts.make(model, args.seed, kind, number, short=True), number % 2 == 0)

@@ -4,9 +4,10 @@
     histories.py [--seed S] [--calls N] [--kind KIND] [--with SET] [--model FOLDER]
 
 The model is tools/model, or that of another FOLDER. The runs are those of compare.py, made on model.py, but for `altered`,
-which pokes. Of every call the history must foretell the answer, the refusal's number included; of a finished run the kept
-record must have the value and the dictionary that the model wrote, and the ledger the value's size. SET names the requests
-of document 02 in force, as the model's --with does, else those that have landed (landed.py). The status is 1 where something differs.
+which pokes. Of every call the history must foretell the answer, the refusal's number included (24 of a `new` by its floor
+alone); of a finished run the kept record must have the value and the dictionary that the model wrote at the run's floor, and the
+ledger the value's size. SET names the requests of document 02 in force, as the model's --with does, else those that have landed
+(landed.py). The status is 1 where something differs.
 """
 import argparse
 import collections
@@ -19,10 +20,13 @@ from landed import LANDED
 
 def faults(history, model, run):
     """What differs in a run: lines for people."""
-    settings, told = run.calls[0][1], history.History()
+    for call, answer in zip(run.calls[:run.made + 1], run.answers):
+        if call[0] == "new" and answer != ("new" if 1 <= call[1].get("floor", 1) <= 4 else "refused 24"):
+            yield f"{call}: the model {answer}"
+    settings, told = run.calls[run.made][1], history.History()
     floor = settings.get("floor", 1)
     ledger, mark, refusals = history.Ledger(floor), history.Sorted(model.on), history.Refusals(settings, model.on)
-    for call, answer in zip(run.calls[1:], run.answers[1:]):
+    for call, answer in zip(run.calls[run.made + 1:], run.answers[run.made + 1:]):
         if call[0] not in compare.CALLS:
             continue
         number = int(answer.split()[1]) if answer.startswith("refused") else 0

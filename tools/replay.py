@@ -9,8 +9,8 @@ computed here. In crates/test_replay/data are
     python3 tools/replay.py [ROOT] [--answers [--with SET] [--model FOLDER]]
 
 All is hexadecimal; sizes are two bytes, highest first. The first line is the number of scripts. A script is a line of its mark,
-how many lines follow, and the storage that it is lent (value, namebytes, names, entries; `fill` is not used); then a line for
-each call, poke and dump, of three fields:
+the number of its maker's refusal or 0, how many lines follow, the storage that it is lent (value, namebytes, names, entries; `fill` is
+not used) and its floor, of eight bytes; then a line for each call, poke and dump that has a builder, of three fields:
 - the call (CALLS), its argument (the mark, which scalar, or which poke), the refusal's number or 0, whether a name is given, the size
   of the output or the place of a poke, and the sizes of the next two fields;
 - the name, the dictionary that a finish must give, or the five used counts that a dump must show (COUNTS), of eight bytes each;
@@ -29,7 +29,7 @@ SCALARS = ['null', 'true', 'false', 'int8', 'int16', 'int32', 'int64', 'float', 
            'tsntzmicros', 'tsnanos', 'tsntznanos', 'dec4', 'dec8', 'dec16']
 COUNTS = ['value_used', 'names_used', 'namebytes_used', 'entries_used', 'open']
 POKES = [*COUNTS, 'unique', 'sorted', 'finished', 'container value', 'container names', 'container namebytes', 'container entries',
-         'container kind', 'container unique', 'container entry new', 'container entry replaced', 'nameend', 'entry', 'value', 'namebytes']
+         'container kind', 'container unique', 'container entry new', 'container entry replaced', 'nameend', 'entry', 'value', 'namebytes', 'floor']
 
 
 def size(n):
@@ -66,7 +66,7 @@ def numbers(words):
 def poke(words):
     """Which one, its place, and its numbers or bytes."""
     what, place = words.pop(0), 0
-    if what not in POKES[:8]:
+    if what not in (*POKES[:8], 'floor'):
         place = int(words.pop(0))
     if what == 'container':
         what += ' ' + words.pop(0)
@@ -75,6 +75,10 @@ def poke(words):
     if what == 'container kind':
         words = [words[0] == 'object']
     return POKES.index(what), place, octets(words) if what in ('value', 'namebytes') else numbers(words)
+
+
+def refusal(answer):
+    return int(answer.removeprefix('refused ')) if answer.startswith('refused') else 0
 
 
 def call(line, answer):
@@ -101,15 +105,14 @@ def call(line, answer):
         expected = settings(word for word in answer.split() if '=' in word)
         name = numbers(expected[count] for count in COUNTS)
         argument, operand = int('value' in expected), octets([expected.get('value', '')])
-    number = int(answer.removeprefix('refused ')) if answer.startswith('refused') else 0
-    head = bytes([CALLS.index(verb), argument, number, given]) + size(out) + size(len(name)) + size(len(operand))
+    head = bytes([CALLS.index(verb), argument, refusal(answer), given]) + size(out) + size(len(name)) + size(len(operand))
     return ','.join(field.hex() for field in (head, name, operand))
 
 
-def start(line, calls):
+def start(line, answer, calls):
     s = settings(line.split()[1:])
     sizes = [calls] + [int(s[key]) for key in ('value', 'namebytes', 'names', 'entries')]
-    return (bytes([int(s['unique'])]) + b''.join(map(size, sizes))).hex()
+    return (bytes([int(s['unique']), refusal(answer)]) + b''.join(map(size, sizes)) + numbers([s.get('floor', 1)])).hex()
 
 
 def scripts(folder, asked, answered):
@@ -118,11 +121,11 @@ def scripts(folder, asked, answered):
     answers = open(os.path.join(folder, 'data', answered)).read().splitlines()
     parts = []
     for line, answer in zip(filter(None, lines), answers, strict=True):
-        if answer == 'new':
-            parts.append([line])
-        else:
+        if line.split()[0] == 'new':
+            parts.append([(line, answer)])
+        elif answer != 'no builder':
             parts[-1].append(call(line, answer))
-    return [[start(first, len(rest)), *rest] for first, *rest in parts]
+    return [[start(*first, len(rest)), *rest] for first, *rest in parts]
 
 
 def answer_edges(folder, model, requests):

@@ -21,6 +21,10 @@ MICROS = (DAYS[0] * 86_400_000_000, (DAYS[1] + 1) * 86_400_000_000 - 1)
 DAY = 86_400_000_000
 FILLS = (1, 7, 85, 170, 255, 256, 65535, 2**32 - 1, 2**63, 2**64 - 1)
 AMPLE = {"value": 4096, "namebytes": 1024, "names": 64, "entries": 256}
+FLOORS = (1, 1, 1, 1, 1, 1, 1, 2, 3, 4)
+BAD_FLOORS = (0, 5, 6, 256, 2**32 + 1, 2**64 - 1)
+NOT_MADE = (("register", b"a"), ("append", None, ("null",)), ("open", None, "list"), ("close",), ("rollback",), ("unique", True),
+            ("finish", 9), ("poke", "floor", 1), ("poke", "open", 0), ("dump",), ("dumpvalue",))
 
 
 # ---------------------------------------------------------------- scalars
@@ -97,9 +101,10 @@ class Run:
 
     `wrong` is the chance of a misplaced or ill-formed call; in a `held` run the accepted scalars are
     those that the Rust's types hold. Under A1 names are registered with containers open in an `inside` run, and in
-    no other, since the Rust has no such call."""
+    no other, since the Rust has no such call. Under A10 a run has a floor, mostly 1; `made` is the place of the `new`
+    that makes its builder, before which one is now and then refused."""
 
-    def __init__(self, model, rng, held, pool=None, wrong=0.02, unique=None, inside=False, **settings):
+    def __init__(self, model, rng, held, pool=None, wrong=0.02, unique=None, inside=False, floor=None, **settings):
         self.model, self.rng, self.held, self.wrong = model, rng, held, wrong
         self.inside = "A1" in model.on and (inside or rng.random() < 0.3)
         self.pool = pool or rng.choice([MIXED, MIXED[:3], [rng.randbytes(2).hex().encode() for _ in range(8)]])
@@ -108,7 +113,17 @@ class Run:
         self.inner_names = 0    # registered with containers open
         unique = rng.random() < 0.2 if unique is None else unique
         fill = rng.choice(FILLS)
-        self.say(("new", {"unique": int(unique), **AMPLE, "fill": fill, **settings}))
+        self.start({"unique": int(unique), **AMPLE, "fill": fill, **settings}, floor)
+
+    def start(self, settings, floor):
+        if "A10" in self.model.on:
+            if self.chance(0.03):
+                self.say(("new", {**settings, "floor": self.rng.choice(BAD_FLOORS)}))
+                for _ in range(self.rng.randrange(4)):
+                    self.say(self.rng.choice(NOT_MADE))
+            settings = {**settings, "floor": floor or self.rng.choice(FLOORS)}
+        self.made = len(self.lines)
+        self.say(("new", settings))
 
     def say(self, call):
         line = self.model.format_call(call)
@@ -117,6 +132,8 @@ class Run:
         self.lines.append(line)
         self.calls.append(call)
         self.answers.append(answer)
+        if self.session.builder is None:
+            return answer
         r, p = self.record(), self.peak
         p["value"], p["names"] = max(p["value"], r.value_used), max(p["names"], r.names_used)
         p["namebytes"], p["entries"] = max(p["namebytes"], r.namebytes_used), max(p["entries"], 2 * r.entries_used)
@@ -306,14 +323,17 @@ def refusals(new, number, short):
 
 def small(new, number, short):
     """The calls of another run again, over storages just enough or just too small."""
-    other = new.rng.choice([plain, replaced, rollbacks])(new, number, short)
-    rng, sizes = new.rng, dict(other.peak)
+    return tightened(new, new.rng.choice([plain, replaced, rollbacks])(new, number, short))
+
+
+def tightened(new, other):
+    rng, sizes, settings = new.rng, dict(other.peak), other.calls[other.made][1]
     for key in rng.sample(sorted(sizes), rng.randint(1, 5)):
         sizes[key] = rng.choice([sizes[key] - 1, sizes[key] - 1, sizes[key], sizes[key] + 1, rng.randint(0, sizes[key])])
     sizes = {key: max(n, 0) for key, n in sizes.items()}
     out = sizes.pop("out")
-    run = new(unique=other.calls[0][1]["unique"], **sizes)
-    for call in other.calls[1:]:
+    run = new(unique=settings["unique"], floor=settings.get("floor"), **sizes)
+    for call in other.calls[other.made + 1:]:
         run.say(("finish", out) if call[0] == "finish" else call)
     if run.answers[-1] == "refused 16":
         run.finish(other.peak["out"])
@@ -361,6 +381,75 @@ def wide(new, number, short):
         run.say(("append", run.name(), (rng.choice(["binary", "text", "string"]), b"w" * rng.choice(sizes))))
     run.wind_up(rollback=0.02)
     return run
+
+
+# ---------------------------------------------------------------- the widths' edges
+
+def put(run, name, scalar=None):
+    """Into the innermost container, under the name if that is an object; without a scalar, a short one."""
+    scalar = scalar or run.rng.choice([("null",), ("int8", 5), ("true",)])
+    run.say(("append", name if run.inner() == "object" else None, scalar))
+
+
+def register_all(run, names):
+    for name in names:
+        run.say(("register", name))
+
+
+def data_edge(run, kind, size):
+    """A container of that many bytes of data."""
+    run.open(kind)
+    for name in run.pool[:run.rng.randrange(4)]:
+        put(run, name)
+    put(run, run.pool[4], (run.rng.choice(["binary", "string"]), b"w" * (size - 5 - run.record().value_used)))
+
+
+def count_edge(run, kind, count):
+    """A container of that many elements or fields."""
+    run.open(kind)
+    for name in run.rng.sample(run.pool, count):
+        put(run, name)
+
+
+def id_edge(run, largest):
+    """A field of that id, beside others."""
+    register_all(run, run.pool[:largest + 1])
+    run.open("object")
+    for name in run.rng.sample(run.pool[largest - 2:largest + 1], 3):
+        put(run, name)
+
+
+def names_edge(run, count):
+    """That many names."""
+    register_all(run, run.pool[:count])
+    put(run, None)
+
+
+def name_bytes_edge(run, size):
+    """Names of that many bytes together."""
+    ends = sorted([0, size, *run.rng.sample(range(1, size), 2)])
+    register_all(run, [bytes([97 + i]) * (end - start) for i, (start, end) in enumerate(zip(ends, ends[1:]))])
+    put(run, None)
+
+
+SIZES = (255, 256, 65_535, 65_536)
+COUNTS = (255, 256)
+EDGES = (*((data_edge, kind, n) for kind in OBJECTS for n in SIZES), *((count_edge, kind, n) for kind in OBJECTS for n in COUNTS),
+         *((id_edge, n) for n in COUNTS), *((names_edge, n) for n in COUNTS), *((name_bytes_edge, n) for n in SIZES))
+CASES = [(floor, *edge) for edge in EDGES for floor in (1, 2, 3, 4)]
+
+
+def widths(new, number, short):
+    """Each floor at each edge of a width; now and then over storages just enough or just too small."""
+    floor, at_edge, *edge_of = CASES[37 * number % len(CASES)]     # 37 and their number have no divisor in common: all come, mixed
+    names = [b"%03d" % i for i in range(260)]
+    new.rng.shuffle(names)
+    run = new(floor=floor, pool=names, wrong=0, value=70_000, namebytes=70_000, names=300, entries=700)
+    at_edge(run, *edge_of)
+    if run.record().open:
+        run.say(("close",))
+    run.finish(80_000)
+    return tightened(new, run) if run.chance(0.3) else run
 
 
 # ---------------------------------------------------------------- altered storage
@@ -439,6 +528,26 @@ def poke_open(run):
         run.say(("poke", "open", r.open + 1))
 
 
+def poke_floor(run):
+    run.say(("poke", "floor", run.rng.choice((1, 2, 3, 4, 1, 2, 3, 4, 0, 5, 2**64 - 1))))
+
+
+POKES = [poke_number, poke_container, poke_storage, poke_name, poke_entry, poke_open,
+         lambda run: run.say(("poke", run.rng.choice(("unique", "sorted", "finished")), run.rng.randrange(2)))]
+
+
+def many_names(new, number):
+    """So many empty names that the next one's id, and the names' count, are at a width's edge: too many to be registered."""
+    run = new(floor=1 + number % 4, names=65_540, fill=0, wrong=0)
+    run.say(("poke", "names_used", new.rng.choice(SIZES) - new.rng.randrange(2)))
+    run.open("object")
+    for name in (b"a", b"")[:new.rng.randint(1, 2)]:
+        put(run, name)
+    run.say(("close",))
+    run.finish(400_000)
+    return run
+
+
 def settle(run):
     """Pokes all that a call may read, so that no answer rests on what document 01 leaves free."""
     r, b = run.record(), run.session.builder
@@ -457,14 +566,15 @@ def settle(run):
 def altered(new, number, short):
     """Record and storage overwritten between the calls: against the model alone."""
     rng = new.rng
+    if number % 40 == 0:
+        return many_names(new, number // 40)
     run = new(value=rng.choice([60, 120, 400]), namebytes=rng.choice([8, 30]), names=rng.choice([4, 12]),
               pool=MIXED[:5], entries=rng.choice([5, 12, 25]), wrong=0.06, inside=True)
     for _ in range(rng.randint(1, 3)):
         for _ in range(rng.randrange(9)):
             run.step()
         for _ in range(rng.choice([1, 1, 1, 2, 3])):
-            rng.choice([poke_number, poke_container, poke_storage, poke_name, poke_entry, poke_open,
-                        lambda run: run.say(("poke", rng.choice(("unique", "sorted", "finished")), rng.randrange(2)))])(run)
+            rng.choice([*POKES, *[poke_floor] * ("A10" in new.model.on)])(run)
         settle(run)
         for _ in range(rng.randint(1, 4)):
             run.step((4, 3, 3, 4, 1)) if run.chance(0.8) else run.anything()
@@ -476,8 +586,8 @@ def altered(new, number, short):
     return run
 
 
-MAKERS = {f.__name__: f for f in (plain, deep, rollbacks, replaced, refusals, small, wide, altered)}
-SHARES = {"plain": 20, "deep": 15, "rollbacks": 17, "replaced": 15, "refusals": 12, "small": 15, "wide": 3, "altered": 8}
+MAKERS = {f.__name__: f for f in (plain, deep, rollbacks, replaced, refusals, small, wide, widths, altered)}
+SHARES = {"plain": 20, "deep": 15, "rollbacks": 17, "replaced": 15, "refusals": 12, "small": 15, "wide": 3, "widths": 5, "altered": 8}
 
 
 class Maker:

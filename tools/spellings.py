@@ -6,9 +6,9 @@
 WRITER is variant-script; the model is tools/model, or that of another FOLDER, and answers by the requests of document 02
 in SET, else by those that have landed (landed.py). A run is one random script: signs,
 underscores and leading zeros in numbers, `0x`, capitals, COUNTxHEX, tabs, comments, line ends of three kinds, pokes
-of all fields, and now and then a line that is no call. Numbers of `new`, `finish` and pokes are those of the grammar,
-0 to 2^64 - 1. Every answer must be the model's; where the model cannot take a line, WRITER must stop there with
-status 2 and say which line it is.
+of all fields, now and then another `new`, one that is refused, and a line that is no call. Numbers of `new`, `finish` and
+pokes are those of the grammar, 0 to 2^64 - 1. Every answer must be the model's; where the model cannot take a line, WRITER
+must stop there with status 2 and say which line it is.
 """
 import argparse
 import os
@@ -22,6 +22,10 @@ MODEL = os.path.join(os.path.dirname(os.path.abspath(__file__)), "model")
 LARGE = (63, 64, 65, 255, 256, 2**32 - 1, 2**32, 2**63, 2**64 - 1)
 BITS = (7, 15, 31, 32, 63, 127, 128)
 NO_CALLS = ("close 1", "new size=1", "open tree", "call", "unique 2", "poke field 1", "poke container 64 value 0")
+
+
+FLOORS = ("1", "2", "3", "4", "+2", "03", "0_4", "1")
+BAD_FLOORS = ("0", "5", "+0", "00_5", str(2**64 - 1))
 
 
 def seldom(rng, wrong, right):
@@ -75,7 +79,8 @@ def poke(rng, model):
     return "poke " + rng.choice([
         f"{rng.choice(model.RECORD_NUMBERS)} {n[0]}", f"{rng.choice(model.RECORD_MARKS)} {flag}",
         f"container {rng.choice(['0', '0', '1', '1', '2', '+1', '63'])} {part}", f"container {near} {part}",
-        f"{rng.choice(['value', 'namebytes'])} {near} {some_bytes(rng)}", f"nameend {near} {n[0]}", f"entry {near} {n[0]} {n[1]}"])
+        f"{rng.choice(['value', 'namebytes'])} {near} {some_bytes(rng)}", f"nameend {near} {n[0]}", f"entry {near} {n[0]} {n[1]}",
+        *[f"floor {rng.choice([*FLOORS, n[0]])}"] * ("A10" in model.on)])
 
 
 def line(rng, model, script):
@@ -83,14 +88,17 @@ def line(rng, model, script):
     appended, opened, poked = f"append {name}{scalar(rng, script)}", f"open {name}{rng.choice(['list', 'object'])}", poke(rng, model)
     text = seldom(rng, NO_CALLS, [
         appended, appended, appended, opened, opened, poked, poked, "register " + some_bytes(rng), "register", "close", "close",
-        "rollback", "unique " + rng.choice("01"), "finish", "finish out=" + size(rng), "dump", "dumpvalue", "", "# nothing"])
+        "rollback", "unique " + rng.choice("01"), "finish", "finish out=" + size(rng), "dump", "dumpvalue", "", "# nothing",
+        first_line(rng, model) if rng.random() < 0.3 else "close"])
     behind = rng.choice([" # said", "#said", "\t", "  ", "\v", " \f", "\x1c", "\u00a0"])
     return rng.choice([text, text, text, text + behind, text.replace(" ", "\t ")])
 
 
-def first_line(rng):
+def first_line(rng, model):
     keys = rng.sample(["value", "namebytes", "names", "entries", "fill"], rng.randrange(6))
     settings = [f"{key}={number(rng) if key == 'fill' else size(rng)}" for key in keys]
+    if "A10" in model.on and rng.random() < 0.6:
+        settings.append("floor=" + rng.choice(BAD_FLOORS if rng.random() < 0.1 else FLOORS))
     return " ".join(["new", *settings, rng.choice(["", "unique=1", "unique=2"])])
 
 
@@ -98,7 +106,7 @@ def made(rng, model, script):
     """A script's lines, the model's answers, and the number of the line that the model cannot take, if any."""
     session, lines, answers = model.Session(model.on), [], []
     for at in range(1, rng.randrange(2, 40)):
-        lines.append(line(rng, model, script) if at > 1 else first_line(rng))
+        lines.append(line(rng, model, script) if at > 1 else first_line(rng, model))
         try:
             call = script.parse_line(lines[-1])
             if call is not None:

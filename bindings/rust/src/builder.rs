@@ -39,12 +39,17 @@ pub struct Storage<'b> {
 ///
 /// Storage does not grow: a call for which it is too small is refused with 12 (names), 13 (entries) or 14 (value bytes), and may be
 /// made again after `grow`. A refused call changes nothing. A name is `Some` in an object and `None` elsewhere.
+///
+/// Offsets, ids and the dictionary's numbers take as few bytes as hold them, but no fewer than the floor: 1, or what `with_floor`,
+/// `lend_with_floor` or `reset_with_floor` was given, 1 to 4. Containers' counts and the lengths of Binary and String do not follow it.
 pub struct VariantBuilder<'a> {
     words: [usize; WORDS],
     value: Buffer<'a, u8>,
     text: Buffer<'a, u8>,
     ends: Buffer<'a, usize>,
     entries: Buffer<'a, usize>,
+    /// the floor that it was made with, 1 to 4
+    floor: usize,
 }
 
 /// A linked call over the builder's words and storage, then the arguments given.
@@ -82,6 +87,11 @@ impl VariantBuilder<'static> {
         Self::lend(vec![0; value], vec![0; text], vec![0; names], vec![0; 2 * entries])
     }
 
+    /// As `new`, with this floor. One that is not 1 to 4 is refused with 24, and nothing is made.
+    pub fn with_floor(floor: usize) -> Result<Self, Refusal> {
+        Self::new().at_floor(floor)
+    }
+
     /// Larger storage of the builder's own, with what it holds; none gets smaller.
     pub fn grow(&mut self, value: usize, text: usize, names: usize, entries: usize) {
         self.value.grow(value);
@@ -106,15 +116,38 @@ impl<'a> VariantBuilder<'a> {
         entries: impl Into<Buffer<'a, usize>>,
     ) -> Self {
         let (value, text, ends, entries) = (value.into(), text.into(), ends.into(), entries.into());
-        let mut builder = VariantBuilder { words: [0; WORDS], value, text, ends, entries };
+        let mut builder = VariantBuilder { words: [0; WORDS], value, text, ends, entries, floor: 1 };
         builder.reset(false);
         builder
     }
 
-    /// A fresh builder over the same storage; objects start with this uniqueness mark (`new` and `lend`: off).
+    /// As `lend`, with this floor. One that is not 1 to 4 is refused with 24, and nothing is made.
+    pub fn lend_with_floor(
+        value: impl Into<Buffer<'a, u8>>,
+        text: impl Into<Buffer<'a, u8>>,
+        ends: impl Into<Buffer<'a, usize>>,
+        entries: impl Into<Buffer<'a, usize>>,
+        floor: usize,
+    ) -> Result<Self, Refusal> {
+        Self::lend(value, text, ends, entries).at_floor(floor)
+    }
+
+    fn at_floor(mut self, floor: usize) -> Result<Self, Refusal> {
+        self.reset_with_floor(false, floor)?;
+        Ok(self)
+    }
+
+    /// A fresh builder over the same storage, with the same floor; objects start with this uniqueness mark (`new` and `lend`: off).
     pub fn reset(&mut self, unique: bool) {
+        self.reset_with_floor(unique, self.floor).expect("the floor was taken before")
+    }
+
+    /// As `reset`, with this floor. One that is not 1 to 4 is refused with 24, and the builder is as it was.
+    pub fn reset_with_floor(&mut self, unique: bool, floor: usize) -> Result<(), Refusal> {
         // SAFETY: the pointer is a mutable borrow's
-        unsafe { sys::variant_new(&mut self.words, unique) }
+        answer(unsafe { sys::variant_new(&mut self.words, unique, floor) })?;
+        self.floor = floor;
+        Ok(())
     }
 
     /// A name given beforehand, or while containers are open: a new one belongs to the innermost and goes when that one is
@@ -248,7 +281,7 @@ mod tests {
         for number in 1..=u8::MAX {
             let refusal = answer(number).expect_err("a refusal");
             assert_eq!(refusal.number(), number);
-            assert_eq!(refusal == Refusal::Unknown(number), number > 16);
+            assert_eq!(refusal == Refusal::Unknown(number), !matches!(number, 1..=16 | 24));
             assert!(refusal.to_string().starts_with(&format!("refused {number}: ")));
         }
     }

@@ -28,5 +28,5 @@ pub use listing::listing;
 pub use refusal::Refusal;
 pub use variant::Variant;
 
-/// How many state words a builder has: 7 counts, and 64 containers of 9 words (`crates/ffi/specs/Words.antt`).
-pub const WORDS: usize = 583;
+/// How many state words a builder has: 8 counts, and 64 containers of 9 words (`crates/ffi/specs/Words.antt`).
+pub const WORDS: usize = 584;

@@ -6,14 +6,15 @@
 //! can see: each pointer is valid for the call, for as many items as the length behind it says (the words: `WORDS`; a UUID: 16), for
 //! writing where it is `*mut`; and what is written overlaps nothing else that the call is given.
 //!
-//! An answer is 0, or document 01's number, and then all is as it was.
+//! An answer is 0, or the number of a refusal (`Refusal`), and then all is as it was.
 use crate::WORDS;
 
 pub type Words = *mut [usize; WORDS];
 
 #[rustfmt::skip]
 extern "C" {
-    pub fn variant_new(words: Words, unique: bool);
+    /// Any floor but 1 to 4 is refused with 24, and the words are as they were.
+    pub fn variant_new(words: Words, unique: bool, floor: usize) -> u8;
 
     pub fn variant_add_field_name(
         words: Words,

@@ -30,21 +30,45 @@ fn object(unique: bool) -> VariantBuilder<'static> {
     b
 }
 
+/// Every call is refused with that number.
+fn all_refused(number: u8, b: &mut VariantBuilder) {
+    refused(number, b, |b| b.add_field_name(b"a"));
+    refused(number, b, |b| b.append_value(None, ()));
+    refused(number, b, |b| b.append_value(None, "a"));
+    refused(number, b, |b| b.append_value(None, Variant::Uuid([0; 16])));
+    refused(number, b, |b| b.new_list(None));
+    refused(number, b, |b| b.new_object(None));
+    refused(number, b, |b| b.close());
+    refused(number, b, |b| b.rollback());
+    refused(number, b, |b| b.with_validate_unique_fields(true));
+    refused(number, b, |b| finish(b, 9));
+}
+
 #[test]
 fn foreign_words() {
     let mut b = VariantBuilder::new();
     b.words_mut().fill(usize::MAX);
-    refused(1, &mut b, |b| b.add_field_name(b"a"));
-    refused(1, &mut b, |b| b.append_value(None, ()));
-    refused(1, &mut b, |b| b.append_value(None, "a"));
-    refused(1, &mut b, |b| b.append_value(None, Variant::Uuid([0; 16])));
-    refused(1, &mut b, |b| b.new_list(None));
-    refused(1, &mut b, |b| b.new_object(None));
-    refused(1, &mut b, |b| b.close());
-    refused(1, &mut b, |b| b.rollback());
-    refused(1, &mut b, |b| b.with_validate_unique_fields(true));
-    refused(1, &mut b, |b| finish(b, 9));
+    all_refused(1, &mut b);
     assert_eq!(b.value().len(), 4096);
+}
+
+/// A floor that is not 1 to 4 is found at every call, finished or not; one that is counts from the next call on.
+#[test]
+fn foreign_floor() {
+    let mut b = VariantBuilder::new();
+    b.new_list(None).unwrap();
+    for floor in [0, 5, usize::MAX] {
+        b.words_mut()[7] = floor;
+        all_refused(1, &mut b);
+    }
+    b.words_mut()[7] = 4;
+    b.close().unwrap();
+    assert_eq!(b.value(), [15, 0, 0, 0, 0, 0]);
+    b.words_mut()[7] = 1;
+    finish(&mut b, 3).unwrap();
+    all_refused(2, &mut b);
+    b.words_mut()[7] = 0;
+    all_refused(1, &mut b);
 }
 
 #[test]
@@ -171,7 +195,7 @@ fn kinds_of_bytes() {
         )
     };
     for kind in 0..=u8::MAX {
-        unsafe { sys::variant_new(&mut words, false) };
+        assert_eq!(unsafe { sys::variant_new(&mut words, false, 1) }, 0);
         let before = words;
         let answer = append(&mut words, kind);
         assert_eq!(answer, if kind < 4 { 0 } else { 7 }, "kind {kind}");

@@ -44,10 +44,35 @@ fn pokes() {
     let answer = answers(script);
     let lines: Vec<&str> = answer.lines().skip(9).collect();
     let counts = "value_used=0 names_used=1 namebytes_used=1 entries_used=1";
-    assert_eq!(lines[0], format!("dump {counts} open=1 unique=0 sorted=- finished=0 c0=object:0,0,0,0:1:- value= names=61 e0=0@0"));
+    assert_eq!(lines[0], format!("dump {counts} open=1 unique=0 sorted=- finished=0 floor=1 c0=object:0,0,0,0:1:- value= names=61 e0=0@0"));
     assert_eq!(lines[1], "refused 10");
     assert!(lines[3].starts_with(&format!("dump {counts} open=65 ")) && lines[3].ends_with(" broken"));
     assert_eq!(lines[4], "refused 1");
+}
+
+#[test]
+fn floors() {
+    let script = "new floor=2\nopen object\nclose\nfinish\ndump\nnew\nopen list\npoke floor 3\nclose\npoke floor 5\ndump\nfinish\n";
+    let counts = "value_used=4 names_used=0 namebytes_used=0 entries_used=0 open=0 unique=0 sorted=- finished=1";
+    let altered = "value_used=5 names_used=0 namebytes_used=0 entries_used=0 open=0 unique=0 sorted=- finished=0";
+    let first = format!("new\nok\nok\nok value=16000000 dict=4100000000\ndump {counts} floor=2 value=16000000 names=\n");
+    let second = format!("new\nok\npoked\nok\npoked\ndump {altered} floor=5 broken\nrefused 1\n");
+    assert_eq!(answers(script), first + &second);
+}
+
+/// After a refused `new`, as before any, no call has a builder; what is no call is found out all the same.
+#[test]
+fn no_builder() {
+    let calls = "register 61\nappend null\nopen list\nclose\nrollback\nunique 1\nfinish\npoke floor 1\ndump\ndumpvalue\n";
+    let none = "no builder\n".repeat(10);
+    assert_eq!(answers(calls), none);
+    for floor in ["0", "5", "18446744073709551615"] {
+        let script = format!("new\nappend null\nnew floor={floor}\n{calls}new floor=4\nfinish\n");
+        assert_eq!(answers(&script), format!("new\nok\nrefused 24\n{none}new\nrefused 15\n"));
+    }
+    for bad in ["append int8 128", "close 1", "unique 2", "dump 1", "poke", "fnord"] {
+        assert_eq!(run(&[], bad).2, 2, "{bad}");
+    }
 }
 
 /// The kept scripts: the sample with the Rust's answers, the edges with the model's.
@@ -109,9 +134,13 @@ finish out=-1
 finish in=3
 new size=3
 new value=x
+new floor=x
+new undo=2
 new value=18446744073709551615
 poke
 poke open
+poke floor
+poke floor -1
 poke container 64 value 0
 poke container 0 kind tree
 poke value 4096 00
@@ -126,7 +155,6 @@ fn bad_lines() {
         assert_eq!((&out[..], status), ("new\nok\n", 2), "{bad}");
         assert!(err.starts_with("variant-script: line 3: expected "), "{bad}: {err}");
     }
-    assert_eq!(run(&[], "close\n").2, 2);
     assert_eq!(run(&["--other"], "").2, 2);
     assert_eq!(run(&["no such file"], "").2, 2);
 }

@@ -1,6 +1,6 @@
 -- A container closed: its header, and then the call.
 use mathlib.Core.Path.{_≡_, refl, sym, _∙_, ap}
-use mathlib.Core.Bool.{Bool, true, false, cond, not}
+use mathlib.Core.Bool.{Bool, true, false, cond, not, _||_}
 use mathlib.Core.List.{List}
 use Prim.Native.Nat.{ℕ, _+_, _-_, _≤_}
 use native.Mathlib.Omega.{arith}
@@ -18,7 +18,7 @@ use Rattle.container.specs.Close.{Closes, ClosesObject, closedNumber, freed, li
 use Rattle.container.proofs.ObjectLaws.{front-largest}
 use Rattle.semantics.specs.declared.View.{View}
 use Rattle.semantics.specs.Record.{Storage, close, innerEntries, isOpen, namesHeld, storageOf}
-use Rattle.semantics.specs.Damage.{damaged, grown, misread, overUsed, unchained}
+use Rattle.semantics.specs.Damage.{badFloor, damaged, grown, misread, overUsed, unchained}
 use Rattle.semantics.specs.Table.{header, numberOf, tooLong}
 use Rattle.semantics.specs.Step.{closed, entriesClosed, withCounts}
 use Rattle.refusals.specs.declared.Closing.{Closing}
@@ -74,7 +74,7 @@ undamaged-inside v l x e =
     let a = neither (overUsed v l) _ e in
     let o = neither (ltb (counted (length (l .value))) (v .counts .value)) _ (a .0) in
     let t = neither (exceeds (v .counts .dictionary) (length (l .text)) (length (l .ends))) _ (o .1) .1 in
-    let g = both (v .chain) (grown v) (not-false _ (neither (unchained v) x (a .1) .0)) .1 in
+    let g = both (v .chain) (grown v) (not-false _ (neither (unchained v) (badFloor v || x) (a .1) .0)) .1 in
     let k = both (leb (v .inner .value) (v .counts .value)) _ g in
     let n = both (leb (v .inner .names) (fieldNames (v .counts .dictionary))) _ (k .1) .1 in
     let m = both (leb (v .inner .text) (textSize (v .counts .dictionary))) (leb (v .inner .entries) (v .counts .entries)) n .1 in
@@ -82,7 +82,10 @@ undamaged-inside v l x e =
 
 -- number 1's part that every call asks does not hold either
 undamaged-unbroken : (v : View) (l : Storage) (x : Bool) → damaged v l x ≡ false → brokenOf v l ≡ false
-undamaged-unbroken v l x e = let a = neither (overUsed v l) _ e in rw (a .0, neither (unchained v) x (a .1) .0)
+undamaged-unbroken v l x e =
+    let a = neither (overUsed v l) _ e in
+    let b = neither (unchained v) (badFloor v || x) (a .1) in
+    rw (a .0, b .0, neither (badFloor v) x (b .1) .0)
 
 -- as the code finds it
 pub closable : {v : View} {l : Storage} {d : Closing} → ClosesBy v l d → d .number ≡ 0 → Closable v l (d .largest)

@@ -55,7 +55,7 @@ finishes-early {v} {l} {out} {n} e q = ends-refused (go (brokenOf v l) refl) q
 
 -- none of them holds: the name ends and row 16 are left, which the dictionary asks
 pub record Finishable (v : View) (l : Storage) (out : List ℕ) : Type 0 where
-  pub number : numberOf v l (finish out) ≡ finishes (v .counts .dictionary) (l .text) (l .ends) out
+  pub number : numberOf v l (finish out) ≡ finishes (v .counts .floor) (v .counts .dictionary) (l .text) (l .ends) out
 
 -- the tests that then do not hold
 none-holds : (b m f o d : Bool) → (let late : ℕ = cond f 2 (cond o 4 (cond d 15 0)) in cond (eqb late 0) (cond b 1 0) (cond m 1 late) ≡ 0)
@@ -71,7 +71,7 @@ unfolding first numberOf finishes fallenEnds
 finishable {v} {l} {out} e q =
     let c = none-holds (brokenOf v l) (damaged v l (fallenEnds v l)) (v .counts .finished) (isOpen v) (eqb (v .counts .value) 0) (sym e ∙ q) in
     let d = damaged-none v l (fallenEnds v l) (c .0) in
-    record { number = rw (d, c .1, c .2, c .3, ends-read v l (c .0)) (go (leb (sizeOf (fieldNames (v .counts .dictionary)) (textSize (v .counts .dictionary))) (counted (length out)))) }
+    record { number = rw (d, c .1, c .2, c .3, ends-read v l (c .0)) (go (leb (sizeOf (v .counts .floor) (fieldNames (v .counts .dictionary)) (textSize (v .counts .dictionary))) (counted (length out)))) }
   where
     go : (t : Bool) → _≡_ {A = ℕ} (cond (fallenEnds v l) 1 (cond (not t) 16 0)) (cond (fallenEnds v l) 1 (cond t 0 16))
     go true = refl
@@ -80,28 +80,28 @@ finishable {v} {l} {out} e q =
 -- ---- the name ends and row 16: by the dictionary's answer
 
 -- the dictionary's size
-dictionary-bytes : (v : View) (l : Storage) → intact (v .counts .dictionary) (l .text) (l .ends) ≡ true → length (dictionaryOf v l) ≡ sizeOf (fieldNames (v .counts .dictionary)) (textSize (v .counts .dictionary))
+dictionary-bytes : (v : View) (l : Storage) → intact (v .counts .dictionary) (l .text) (l .ends) ≡ true → length (dictionaryOf v l) ≡ sizeOf (v .counts .floor) (fieldNames (v .counts .dictionary)) (textSize (v .counts .dictionary))
 unfolding dictionaryOf
 dictionary-bytes v l i =
     let m = v .counts .dictionary in
-    dictionary-size (namesHeld v l) ∙ (rw (length-names m (l .text) (l .ends) i, length-joined-names m (l .text) (l .ends) i))
+    dictionary-size (v .counts .floor) (namesHeld v l) ∙ (rw (length-names m (l .text) (l .ends) i, length-joined-names m (l .text) (l .ends) i))
 
 -- one that is written has intact name ends
-written-intact : (v : View) (l : Storage) (out : List ℕ) → finishes (v .counts .dictionary) (l .text) (l .ends) out ≡ 0 → intact (v .counts .dictionary) (l .text) (l .ends) ≡ true
+written-intact : (v : View) (l : Storage) (out : List ℕ) → finishes (v .counts .floor) (v .counts .dictionary) (l .text) (l .ends) out ≡ 0 → intact (v .counts .dictionary) (l .text) (l .ends) ≡ true
 unfolding finishes
 written-intact v l out e = not-false _ (past (not (intact (v .counts .dictionary) (l .text) (l .ends))) 0 _ e .0)
 
-module _ {v : View} {l : Storage} {out : List ℕ} {r : Finished} {left : List ℕ} (k : Finishable v l out) (f : FinishesDictionary (v .counts .dictionary) (l .text) (l .ends) out r left) where
-  same-number : {n : ℕ} → finishNumber r ≡ n → finishes (v .counts .dictionary) (l .text) (l .ends) out ≡ n
+module _ {v : View} {l : Storage} {out : List ℕ} {r : Finished} {left : List ℕ} (k : Finishable v l out) (f : FinishesDictionary (v .counts .floor) (v .counts .dictionary) (l .text) (l .ends) out r left) where
+  same-number : {n : ℕ} → finishNumber r ≡ n → finishes (v .counts .floor) (v .counts .dictionary) (l .text) (l .ends) out ≡ n
   same-number e = sym (f .number) ∙ e
 
   -- carried out
   pub ends-written : {size : ℕ} → r ≡ Written size
-      → Ends v l out (record { counts = record { value = v .counts .value; entries = v .counts .entries; depth = v .counts .depth; dictionary = v .counts .dictionary; unique = v .counts .unique; finished = true }; number = 0; written = size }) left
+      → Ends v l out (record { counts = record { value = v .counts .value; entries = v .counts .entries; depth = v .counts .depth; dictionary = v .counts .dictionary; unique = v .counts .unique; finished = true; floor = v .counts .floor }; number = 0; written = size }) left
   unfolding finished dictionaryOf
   ends-written {size} e =
       let z = same-number (ap finishNumber e) in
-      let s : size ≡ sizeOf (fieldNames (v .counts .dictionary)) (textSize (v .counts .dictionary)) = rw (z, e) at (f .size) in
+      let s : size ≡ sizeOf (v .counts .floor) (fieldNames (v .counts .dictionary)) (textSize (v .counts .dictionary)) = rw (z, e) at (f .size) in
       record { number = rw (k .number, z); counts = rw (k .number, z); written = rw (k .number, z) (s ∙ sym (dictionary-bytes v l (written-intact v l out z))); output = rw (k .number, z) (rw z at (f .bytes)) }
 
   -- refused, with the dictionary's number

@@ -8,7 +8,7 @@ use Rattle.semantics.specs.declared.Builder.{Builder}
 use Rattle.semantics.specs.declared.Container.{Container}
 use Rattle.semantics.specs.declared.View.{View}
 use Rattle.semantics.specs.Record.{Storage, uniqueness, viewOf, innermost, inObject, rising, chained}
-use Rattle.semantics.specs.Damage.{overUsed, grown, unchained}
+use Rattle.semantics.specs.Damage.{overUsed, grown, unchained, badFloor}
 use Rattle.semantics.specs.Table.{numberOf}
 use Rattle.semantics.specs.Step.{withUnique}
 use Rattle.semantics.proofs.Demand1.{none-at}
@@ -31,7 +31,8 @@ unique-open b l u e =
     let k = none-at (viewOf b) l (uniqueness u) e in
     let d = b .counts .depth in
     let i = and-eq-true-iff (ltb 0 d) (innermost (b .containers) d .object) .0 (not-false (inObject (viewOf b)) (k 3)) in
-    let g = neither (overUsed (viewOf b) l) (unchained (viewOf b) || false) (k 1) in
-    let f = neither (unchained (viewOf b)) false (g .1) in
+    let rest = badFloor (viewOf b) || false in
+    let g = neither (overUsed (viewOf b) l) (unchained (viewOf b) || rest) (k 1) in
+    let f = neither (unchained (viewOf b)) rest (g .1) in
     let c = and-eq-true-iff (chained (b .containers) d) (grown (viewOf b)) .0 (not-false (chained (b .containers) d && grown (viewOf b)) (f .0)) in
     (ltb-true 0 d (i .0), leb-true d 64 (and-eq-true-iff (leb d 64) (rising (b .containers) (d - 1)) .0 (c .0) .0))

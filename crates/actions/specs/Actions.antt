@@ -99,7 +99,7 @@ childOf c e p object =
 
 -- ---- the innermost's header put before its data
 abbrev pub frameOf : View → Frame
-frameOf v = record { start = v .inner .value; used = v .counts .value; from = v .inner .entries; to = v .counts .entries }
+frameOf v = record { start = v .inner .value; used = v .counts .value; from = v .inner .entries; to = v .counts .entries; floor = v .counts .floor }
 
 pub record Fronts (v : View) (l : Storage) (r : Closed) (value entries : List ℕ) : Type 0 where
   pub number : closedNumber r ≡ closes (frameOf v) (length (l .value)) (length (l .entries)) (header v l)

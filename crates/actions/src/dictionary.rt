@@ -30,7 +30,7 @@ pub fn finish_over(
         };
     }
     let m = c.dictionary;
-    let r = metadata::finish(m, text, ends, out);
+    let r = metadata::finish(m, c.floor, text, ends, out);
     match r {
         Finished::Damaged => Ended {
             counts: c,
@@ -50,6 +50,7 @@ pub fn finish_over(
                 dictionary: m,
                 unique: c.unique,
                 finished: true,
+                floor: c.floor,
             },
             number: 0,
             written: size,

@@ -111,6 +111,7 @@ fn counts_with(c: Counts, size: usize, fresh: bool, opens: bool, m: MetadataBuil
         dictionary: m,
         unique: c.unique,
         finished: c.finished,
+        floor: c.floor,
     }
 }
 

@@ -46,6 +46,7 @@ pub fn close_over(
                     dictionary: m,
                     unique: c.unique,
                     finished: c.finished,
+                    floor: c.floor,
                 },
                 number: 0,
             }
@@ -79,6 +80,7 @@ fn put_header(
         used: v.counts.value,
         from: v.inner.entries,
         to: v.counts.entries,
+        floor: v.counts.floor,
     };
     if v.inner.object {
         let m = v.counts.dictionary;

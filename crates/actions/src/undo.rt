@@ -45,6 +45,7 @@ pub fn rollback_over(
             dictionary: cut,
             unique: c.unique,
             finished: c.finished,
+            floor: c.floor,
         },
         number: 0,
     }

@@ -1,24 +1,27 @@
 -- Demands 2 and 3 of the calls of this crate, made one after the other.
 use mathlib.Core.Path.{_≡_, refl}
 use mathlib.Core.Logic.{_↔_}
-use mathlib.Core.Bool.{Bool}
+use mathlib.Core.Bool.{Bool, true}
 use mathlib.Core.List.{List}
 use mathlib.Core.Option.{some}
 use Prim.Native.Nat.{ℕ}
 use lib.ListN.{length-replicate}
 use Rattle.metadata.specs.Bytes.{dictionaryNames}
 use Rattle.semantics.specs.declared.Builder.{Builder}
-use Rattle.semantics.specs.Record.{State, Call, noContainer}
+use Rattle.semantics.specs.Record.{State, Call, goodFloor, noContainer}
 use Rattle.semantics.specs.Tree.{Tree, encode}
-use Rattle.semantics.specs.Run.{Fresh, valueBytes, kept, keptDictionary, Made, FinishedCalls}
+use Rattle.semantics.specs.Run.{Fresh, floorOf, valueBytes, kept, keptDictionary, Made, FinishedCalls}
 use Rattle.semantics.specs.Run.{noCall as none-made, aCall as call-made, aFinish as finish-made}
 use Rattle.semantics.proofs.Demands as run
 use Rattle.builder.specs.Calls.{state, freshOf, Chain, noCall, aCall, aFinish, FinishedChain}
 
--- the builder that `new` made is fresh
-pub new-fresh : {b : Builder} (u : Bool) → b ≡ freshOf u → Fresh b
+-- the builder that `new` made is fresh, and so is one made with a floor that is not refused
+pub made-fresh : {b : Builder} (u : Bool) (floor : ℕ) → goodFloor floor ≡ true → b ≡ freshOf u floor → Fresh b
 unfolding freshOf
-new-fresh u e = rw e (record { value = refl; entries = refl; depth = refl; dictionary = refl; finished = refl; containers = length-replicate 64 noContainer })
+made-fresh u floor g e = rw e (record { value = refl; entries = refl; depth = refl; dictionary = refl; finished = refl; containers = length-replicate 64 noContainer; floor = g })
+
+pub new-fresh : {b : Builder} (u : Bool) → b ≡ freshOf u 1 → Fresh b
+new-fresh u e = made-fresh u 1 refl e
 
 -- calls made by their contracts are made as `semantics` says
 pub chain-made : {s u : State} {cs : List Call} {d : List ℕ} → Chain s cs u d → Made s cs u d
@@ -30,13 +33,13 @@ chain-finished : {s u : State} {cs : List Call} {d : List ℕ} → FinishedChain
 chain-finished r = record { fresh = r .fresh; made = chain-made (r .calls); finished = r .finished }
 
 -- 2 Exact. The value bytes are the kept top value's, and the dictionary is that of the kept names.
-pub value : {s u : State} {cs : List Call} {d : List ℕ} → FinishedChain s cs u d → (t : Tree) × (kept s cs .top ≡ some t) × (valueBytes u ≡ encode (kept s cs .names) t)
+pub value : {s u : State} {cs : List Call} {d : List ℕ} → FinishedChain s cs u d → (t : Tree) × (kept s cs .top ≡ some t) × (valueBytes u ≡ encode (floorOf s) (kept s cs .names) t)
 value r = run.made-value (chain-finished r)
 
 pub written : {s u : State} {cs : List Call} {d : List ℕ} → FinishedChain s cs u d → (d ≡ keptDictionary s cs) × (dictionaryNames d ≡ kept s cs .names)
 written r = run.made-written (chain-finished r)
 
--- 3 Faithful. Of two such chains, value bytes and dictionaries are equal exactly when the kept records are.
-pub faithful : {s t u v : State} {cs ds : List Call} {d e : List ℕ} → FinishedChain s cs u d → FinishedChain t ds v e
+-- 3 Faithful. Of two such chains under one floor, value bytes and dictionaries are equal exactly when the kept records are.
+pub faithful : {s t u v : State} {cs ds : List Call} {d e : List ℕ} → FinishedChain s cs u d → FinishedChain t ds v e → floorOf s ≡ floorOf t
     → ((valueBytes u ≡ valueBytes v) × (d ≡ e)) ↔ (kept s cs ≡ kept t ds)
-faithful r q = run.made-faithful (chain-finished r) (chain-finished q)
+faithful r q f = run.made-faithful (chain-finished r) (chain-finished q) f

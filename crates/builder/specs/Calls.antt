@@ -5,8 +5,10 @@ use mathlib.Core.List.{List, [], _∷_}
 use Prim.Native.Nat.{ℕ}
 use lib.Dec.{eqb}
 use lib.ListN.{replicate, take}
+use Rattle.encoding.specs.Rows.{first}
 use Rattle.semantics.specs.declared.Builder.{Builder}
 use Rattle.semantics.specs.Record.{Storage, State, Call, finish, noContainer}
+use Rattle.semantics.specs.Table.{makeRows}
 use Rattle.semantics.specs.Step.{Outcome, step}
 use Rattle.semantics.specs.Run.{Fresh, freshCounts, isFinish}
 use Rattle.builder.specs.declared.Answer.{Answer}
@@ -61,9 +63,14 @@ Finishes r after out o = (r ≡ finishCalledBy o) × (after ≡ o .state .storag
 
 -- document 01, "A fresh builder: nothing used or open, .. no finish accepted, either uniqueness mark". Its containers, which are left
 -- free, are all empty.
-unfoldable pub freshOf : Bool → Builder
-freshOf u =
-    record { containers = replicate 64 noContainer; counts = freshCounts u }
+unfoldable pub freshOf : Bool → ℕ → Builder
+freshOf u floor =
+    record { containers = replicate 64 noContainer; counts = freshCounts u floor }
+
+-- document 02, A10, a builder made with a floor: its one row's number, and either way the builder that holds that floor
+abbrev pub Makes : Called → Bool → ℕ → Type 0
+Makes r u floor =
+    let n = first (makeRows floor) in (r ≡ record { answer = answerOf n; builder = freshOf u floor }) × (answerNumber (r .answer) ≡ n)
 
 -- ---- calls made one after the other
 

@@ -33,6 +33,7 @@ pub use calls::rollback;
 pub use calls::with_validate_unique_fields;
 use semantics::Builder;
 pub use view::new;
+pub use view::with_floor;
 
 pub enum Answer {
     Done,

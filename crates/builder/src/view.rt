@@ -2,6 +2,7 @@
 use crate::Answer;
 use crate::Called;
 use actions::Moved;
+use refusals::make_number;
 use semantics::Builder;
 use semantics::Container;
 use semantics::Counts;
@@ -13,15 +14,34 @@ ghost use Prim.Native.Nat.{_<_};
 ghost use lib.ListN.{set};
 ghost use Rattle.semantics.specs.Record.{chained, innermost, parentOf, viewOf};
 ghost use Rattle.semantics.specs.Record.{under as underOf};
-ghost use Rattle.builder.specs.Calls.{answerOf, freshOf};
+ghost use Rattle.builder.specs.Calls.{Makes, answerOf, freshOf};
 
-// A fresh builder; children inherit the uniqueness mark.
+// A fresh builder of floor 1, under which every width is the least; children inherit the uniqueness mark.
 pub fn new(unique: bool) -> Builder
-    ensures { λ r. ⌜ r ≡ freshOf unique ⌝ }
+    ensures { λ r. ⌜ r ≡ freshOf unique 1 ⌝ }
+{
+    fresh(unique, 1)
+}
+
+// A fresh builder whose offsets, ids and dictionary numbers take no fewer bytes than the floor, 1 to 4. Any other floor is refused with 24;
+// the record then holds it, and so every call on that is 1.
+pub fn with_floor(unique: bool, floor: usize) -> Called
+    ensures { λ r. ⌜ Makes r unique floor ⌝ }
+{
+    let b = fresh(unique, floor);
+    let n = make_number(floor);
+    Called {
+        answer: answer_of(n),
+        builder: b,
+    }
+}
+
+fn fresh(unique: bool, floor: usize) -> Builder
+    ensures { λ r. ⌜ r ≡ freshOf unique floor ⌝ }
 {
     let e = no_container();
     let cs = [e; 64];
-    let c = fresh_counts(unique);
+    let c = fresh_counts(unique, floor);
     Builder {
         containers: cs,
         counts: c,

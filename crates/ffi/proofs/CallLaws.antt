@@ -18,7 +18,7 @@ use Rattle.semantics.specs.declared.Builder.{Builder}
 use Rattle.semantics.specs.declared.Container.{Container}
 use Rattle.semantics.specs.declared.ParentEntry.{ParentEntry}
 use Rattle.semantics.specs.declared.View.{View}
-use Rattle.semantics.specs.Record.{Storage, Call, Scalars, fixed, bytes, append, register, scalarOf, openIn, uniqueness, finish, containerAt, noContainer, viewOf, storageOf}
+use Rattle.semantics.specs.Record.{Storage, Call, Scalars, fixed, bytes, append, register, scalarOf, openIn, uniqueness, finish, containerAt, goodFloor, noContainer, viewOf, storageOf}
 use Rattle.semantics.specs.Table.{scalarRows, numberOf}
 use Rattle.refusals.specs.Decide.{enterRows, nameOf}
 use Rattle.semantics.specs.Run.{Fresh, freshCounts}
@@ -39,8 +39,8 @@ use Rattle.ffi.specs.Words.{builderOf, containersOf, countsOf, stateOf, 
 use Rattle.ffi.proofs.WordLaws.{containers-length}
 
 -- what the maker leaves is a fresh builder
-pub new-fresh : (ws us : List ℕ) (u : Bool) → PutsCounts ws us (freshCounts u) → Fresh (builderOf us)
-new-fresh ws us u e = rw (e .builder) (record { value = refl; entries = refl; depth = refl; dictionary = refl; finished = refl; containers = containers-length ws })
+pub new-fresh : (ws us : List ℕ) (u : Bool) (floor : ℕ) → goodFloor floor ≡ true → PutsCounts ws us (freshCounts u floor) → Fresh (builderOf us)
+new-fresh ws us u floor g e = rw (e .builder) (record { value = refl; entries = refl; depth = refl; dictionary = refl; finished = refl; containers = containers-length ws; floor = g })
 
 -- a call that changes no container
 pub does-moved : (ws : List ℕ) (l : Storage) (c : Call) {v : View} {r : Moved} {e : Storage} {n : ℕ} {us : List ℕ}

@@ -63,7 +63,7 @@ flag-word false = refl
 
 -- ---- the counts written
 
-counts-read : (ws : List ℕ) (c : Counts) → 7 ≤ length ws → countsOf (countsPut ws c) ≡ c
+counts-read : (ws : List ℕ) (c : Counts) → 8 ≤ length ws → countsOf (countsPut ws c) ≡ c
 unfolding countsOf
 counts-read [] c h = absurd (omega arith)
 counts-read (a0 ∷ []) c h = absurd (omega arith)
@@ -72,12 +72,14 @@ counts-read (a0 ∷ a1 ∷ a2 ∷ []) c h = absurd (omega arith)
 counts-read (a0 ∷ a1 ∷ a2 ∷ a3 ∷ []) c h = absurd (omega arith)
 counts-read (a0 ∷ a1 ∷ a2 ∷ a3 ∷ a4 ∷ []) c h = absurd (omega arith)
 counts-read (a0 ∷ a1 ∷ a2 ∷ a3 ∷ a4 ∷ a5 ∷ []) c h = absurd (omega arith)
-counts-read (a0 ∷ a1 ∷ a2 ∷ a3 ∷ a4 ∷ a5 ∷ a6 ∷ ws) c h = rw (flag-word (c .unique), flag-word (c .finished))
+counts-read (a0 ∷ a1 ∷ a2 ∷ a3 ∷ a4 ∷ a5 ∷ a6 ∷ []) c h = absurd (omega arith)
+counts-read (a0 ∷ a1 ∷ a2 ∷ a3 ∷ a4 ∷ a5 ∷ a6 ∷ a7 ∷ ws) c h = rw (flag-word (c .unique), flag-word (c .finished))
 
 -- the others stay
-counts-other : (ws : List ℕ) (c : Counts) (j : ℕ) → 7 ≤ j → wordAt (countsPut ws c) j ≡ wordAt ws j
+counts-other : (ws : List ℕ) (c : Counts) (j : ℕ) → 8 ≤ j → wordAt (countsPut ws c) j ≡ wordAt ws j
 counts-other ws c j h =
-    getD-set-other (set (set (set (set (set (set ws 0 (c .value)) 1 (c .entries)) 2 (c .depth)) 3 (fieldNames (c .dictionary))) 4 (textSize (c .dictionary))) 5 (wordOf (c .unique))) 6 j (wordOf (c .finished)) 0 (λ e. omega arith)
+    getD-set-other (set (set (set (set (set (set (set ws 0 (c .value)) 1 (c .entries)) 2 (c .depth)) 3 (fieldNames (c .dictionary))) 4 (textSize (c .dictionary))) 5 (wordOf (c .unique))) 6 (wordOf (c .finished))) 7 j (c .floor) 0 (λ e. omega arith)
+    ∙ getD-set-other (set (set (set (set (set (set ws 0 (c .value)) 1 (c .entries)) 2 (c .depth)) 3 (fieldNames (c .dictionary))) 4 (textSize (c .dictionary))) 5 (wordOf (c .unique))) 6 j (wordOf (c .finished)) 0 (λ e. omega arith)
     ∙ getD-set-other (set (set (set (set (set ws 0 (c .value)) 1 (c .entries)) 2 (c .depth)) 3 (fieldNames (c .dictionary))) 4 (textSize (c .dictionary))) 5 j (wordOf (c .unique)) 0 (λ e. omega arith)
     ∙ getD-set-other (set (set (set (set ws 0 (c .value)) 1 (c .entries)) 2 (c .depth)) 3 (fieldNames (c .dictionary))) 4 j (textSize (c .dictionary)) 0 (λ e. omega arith)
     ∙ getD-set-other (set (set (set ws 0 (c .value)) 1 (c .entries)) 2 (c .depth)) 3 j (fieldNames (c .dictionary)) 0 (λ e. omega arith)
@@ -92,10 +94,10 @@ from-words ws us p h =
     rw (h p (omega arith) (omega arith), h (p + 1) (omega arith) (omega arith), h (p + 2) (omega arith) (omega arith), h (p + 3) (omega arith) (omega arith), h (p + 4) (omega arith) (omega arith), h (p + 5) (omega arith) (omega arith), h (p + 6) (omega arith) (omega arith), h (p + 7) (omega arith) (omega arith), h (p + 8) (omega arith) (omega arith))
 
 -- the words with other counts mean the same containers with those counts
-pub put-counts : (ws : List ℕ) (c : Counts) → 7 ≤ length ws → PutsCounts ws (countsPut ws c) c
+pub put-counts : (ws : List ℕ) (c : Counts) → 8 ≤ length ws → PutsCounts ws (countsPut ws c) c
 unfolding containersOf
 put-counts ws c h =
-    let same = from-same ws (countsPut ws c) 64 0 (λ m g. from-words ws (countsPut ws c) (7 + 9 * m) (λ j a b. counts-other ws c j (omega arith))) in
+    let same = from-same ws (countsPut ws c) 64 0 (λ m g. from-words ws (countsPut ws c) (8 + 9 * m) (λ j a b. counts-other ws c j (omega arith))) in
     record { words = refl; builder = rw (counts-read ws c h, same) }
 
 -- ---- a container written
@@ -147,19 +149,19 @@ container-above ws p k j h =
     ∙ getD-set-other (set ws p (k .value)) (p + 1) j (k .names) 0 (λ e. omega arith)
     ∙ getD-set-other ws p j (k .value) 0 (λ e. omega arith)
 
-container-counts : (ws : List ℕ) (p : ℕ) (k : Container) → 7 ≤ p → countsOf (containerPut ws p k) ≡ countsOf ws
+container-counts : (ws : List ℕ) (p : ℕ) (k : Container) → 8 ≤ p → countsOf (containerPut ws p k) ≡ countsOf ws
 unfolding countsOf
 container-counts ws p k h =
-    rw (container-below ws p k 0 (omega arith), container-below ws p k 1 (omega arith), container-below ws p k 2 (omega arith), container-below ws p k 3 (omega arith), container-below ws p k 4 (omega arith), container-below ws p k 5 (omega arith), container-below ws p k 6 (omega arith))
+    rw (container-below ws p k 0 (omega arith), container-below ws p k 1 (omega arith), container-below ws p k 2 (omega arith), container-below ws p k 3 (omega arith), container-below ws p k 4 (omega arith), container-below ws p k 5 (omega arith), container-below ws p k 6 (omega arith), container-below ws p k 7 (omega arith))
 
 -- the words with another container at depth d mean the builder with that container
-pub put-container : (ws : List ℕ) (d : ℕ) (k : Container) → length ws ≡ 583 → d < 64
-    → PutsContainer ws (containerPut ws (7 + 9 * d) k) d k
+pub put-container : (ws : List ℕ) (d : ℕ) (k : Container) → length ws ≡ 584 → d < 64
+    → PutsContainer ws (containerPut ws (8 + 9 * d) k) d k
 unfolding containersOf
 put-container ws d k e h =
-    let p = 7 + 9 * d in
+    let p = 8 + 9 * d in
     let us = containerPut ws p k in
     let put = from-set ws us k 64 0 d d (omega arith) (container-read ws p k (omega arith))
-    (λ m g. from-words ws us (7 + 9 * m) (λ j a b. container-below ws p k j (omega arith)))
-    (λ m g. from-words ws us (7 + 9 * m) (λ j a b. container-above ws p k j (omega arith))) in
+    (λ m g. from-words ws us (8 + 9 * m) (λ j a b. container-below ws p k j (omega arith)))
+    (λ m g. from-words ws us (8 + 9 * m) (λ j a b. container-above ws p k j (omega arith))) in
     record { words = refl; builder = rw (container-counts ws p k (omega arith), put) }

@@ -1,4 +1,4 @@
--- The state words: 583 numbers, and the builder that they mean. Any words mean one: a flag is "not 0".
+-- The state words: 584 numbers, and the builder that they mean. Any words mean one: a flag is "not 0".
 use mathlib.Core.Path.{_≡_}
 use mathlib.Core.Bool.{Bool, false, cond, not}
 use mathlib.Core.List.{List, [], _∷_}
@@ -13,7 +13,9 @@ use Rattle.semantics.specs.declared.Counts.{Counts}
 use Rattle.semantics.specs.declared.ParentEntry.{ParentEntry}
 use Rattle.semantics.specs.declared.ParentEntry.the-variants.{New, Replaced}
 use Rattle.semantics.specs.Record.{Storage, State, Call, register, append, openIn, close, rollBack, uniqueness, finish, containerAt, viewOf}
+use Rattle.semantics.specs.Table.{makeRows}
 use Rattle.semantics.specs.Step.{step}
+use Rattle.semantics.specs.Run.{freshCounts}
 use mathlib.Core.Option.{Option}
 use Rattle.metadata.specs.Names.{Name, fieldNames, textSize}
 use Rattle.refusals.specs.Decide.{enterRows}
@@ -28,7 +30,7 @@ wordAt ws i = getD ws i 0
 abbrev pub flag : ℕ → Bool
 flag x = not (eqb x 0)
 
--- words 0 to 6
+-- words 0 to 7
 unfoldable pub countsOf : List ℕ → Counts
 countsOf ws =
     record {
@@ -38,6 +40,7 @@ countsOf ws =
       dictionary = fromParts (wordAt ws 3) (wordAt ws 4);
       unique = flag (wordAt ws 5);
       finished = flag (wordAt ws 6);
+      floor = wordAt ws 7;
     }
 
 -- a parent's entry: a tag (0 is "new"), an id and an offset, which count where the tag is not 0
@@ -59,7 +62,7 @@ containerFrom ws p =
 
 -- the container at depth i, counted from 0
 abbrev pub containerOf : List ℕ → ℕ → Container
-containerOf ws i = containerFrom ws (7 + 9 * i)
+containerOf ws i = containerFrom ws (8 + 9 * i)
 
 -- n containers from depth i on
 unfoldable pub containersFrom : List ℕ → ℕ → ℕ → List Container
@@ -95,12 +98,15 @@ abbrev pub offsetOf : ParentEntry → ℕ
 offsetOf New = 0
 offsetOf (Replaced id offset) = offset
 
--- words 0 to 6
+-- words 0 to 7
 abbrev pub countsPut : List ℕ → Counts → List ℕ
 countsPut ws c =
     set
+    (set
     (set (set (set (set (set (set ws 0 (c .value)) 1 (c .entries)) 2 (c .depth)) 3 (fieldNames (c .dictionary))) 4 (textSize (c .dictionary))) 5 (wordOf (c .unique))) 6
-    (wordOf (c .finished))
+    (wordOf (c .finished)))
+    7
+    (c .floor)
 
 -- nine words from place p on
 abbrev pub containerPut : List ℕ → ℕ → Container → List ℕ
@@ -120,7 +126,7 @@ containerPut ws p k =
 
 -- the container at depth d put, as it stands in a builder
 abbrev pub containerLeft : List ℕ → ℕ → Builder → List ℕ
-containerLeft ws d b = containerPut ws (7 + 9 * d) (containerAt (b .containers) d)
+containerLeft ws d b = containerPut ws (8 + 9 * d) (containerAt (b .containers) d)
 
 -- the words that a call leaves which is carried out, and b then: the counts', and those of the container that it opens or marks. All
 -- other words are as they were.
@@ -154,11 +160,17 @@ pub record PutsCounts (before after : List ℕ) (c : Counts) : Type 0 where
   pub words : after ≡ countsPut before c
   pub builder : builderOf after ≡ record { containers = containersOf before; counts = c }
 
+-- a builder made with a floor: its one row's number, and the counts put where that is 0; else the words are as they were
+pub record MakesWords (n : ℕ) (before after : List ℕ) (u : Bool) (floor : ℕ) : Type 0 where
+  pub number : n ≡ first (makeRows floor)
+  pub made : n ≡ 0 → PutsCounts before after (freshCounts u floor)
+  pub kept : (n ≡ 0 → ⊥) → after ≡ before
+
 -- ---- For the code.
 
 -- a container put
 pub record PutsContainer (before after : List ℕ) (d : ℕ) (k : Container) : Type 0 where
-  pub words : after ≡ containerPut before (7 + 9 * d) k
+  pub words : after ≡ containerPut before (8 + 9 * d) k
   pub builder : builderOf after ≡ record { containers = set (containersOf before) d k; counts = countsOf before }
 
 -- a piece's number and counts put back: the counts only where the number is 0

@@ -37,6 +37,7 @@ use actions::finish_over;
 use actions::note;
 use actions::rollback_over;
 use actions::unique_over;
+use refusals::make_number;
 use refusals::row;
 use semantics::View;
 use semantics::fresh_counts;
@@ -51,18 +52,23 @@ ghost use mathlib.Core.Path.{_≡_};
 ghost use mathlib.Core.Bool.{false, true};
 ghost use lib.ListN.{length};
 ghost use Rattle.semantics.specs.Record.{append as appendOf, close as closeOf, fixed, openIn, register as registerOf, rollBack, uniqueness, uuid as uuidOf, storageOf};
-ghost use Rattle.semantics.specs.Run.{freshCounts};
 ghost use Rattle.refusals.specs.Decide.{nameOf};
 ghost use Rattle.ffi.specs.Scalars.{bytesBy, variantOf};
-ghost use Rattle.ffi.specs.Words.{DoesWords, EntersWords, FinishesWords, PutsCounts};
+ghost use Rattle.ffi.specs.Words.{DoesWords, EntersWords, FinishesWords, MakesWords};
 
-// A fresh builder; children inherit the uniqueness mark. It sets the counts alone.
+// A fresh builder; children inherit the uniqueness mark, and offsets, ids and dictionary numbers take no fewer bytes than the floor, 1 to 4.
+// It sets the counts alone. Any other floor is 24, and nothing is made.
 #[no_mangle]
-pub extern "C" fn variant_new(words: &mut [usize; WORDS], unique: bool)
-    ensures { λ _. ⌜ PutsCounts (now (words .entry)) (now (words .exit)) (freshCounts unique) ⌝ }
+pub extern "C" fn variant_new(words: &mut [usize; WORDS], unique: bool, floor: usize) -> u8
+    ensures { λ r. ⌜ MakesWords r (now (words .entry)) (now (words .exit)) unique floor ⌝ }
 {
-    let c = fresh_counts(unique);
+    let n = make_number(floor);
+    if n != 0 {
+        return n;
+    }
+    let c = fresh_counts(unique, floor);
     put_counts(words, c);
+    0
 }
 
 // A name given beforehand, or while containers are open: a new one belongs to the innermost and goes when that one is rolled back.

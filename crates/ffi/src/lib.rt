@@ -1,6 +1,6 @@
 // Calls for other languages, `extern "C"`: the builder's state is WORDS numbers that the caller lends with the slices at each call.
 //
-// Words 0 to 6 are the counts: value bytes, entries, open containers, names, name bytes, and two flags: unique, finished.
+// Words 0 to 7 are the counts: value bytes, entries, open containers, names, name bytes, two flags (unique, finished), and the floor.
 // Then come 64 containers of nine words: the starting marks (value bytes, names, name bytes, entries), a tag that is 0 where the
 // parent's entry is new, the id and the former offset where it replaced one, and two flags: object, unique. A flag is "not 0". Any words
 // are a builder; `variant_new` makes a fresh one of them.
@@ -12,5 +12,5 @@ mod calls;
 mod scalars;
 mod words;
 
-// How many state words there are: 7 counts, and 64 containers of 9 words.
-pub const WORDS: usize = 583;
+// How many state words there are: 8 counts, and 64 containers of 9 words.
+pub const WORDS: usize = 584;

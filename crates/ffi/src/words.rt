@@ -23,9 +23,9 @@ fn count(words: &[usize]) -> usize
     words.len()
 }
 
-// That there are 583 is known of a slice of them.
+// That there are 584 is known of a slice of them.
 fn whole(words: &[usize; WORDS]) -> usize
-    ensures { λ r. ⌜ length (now (words .entry)) ≡ 583 ⌝ }
+    ensures { λ r. ⌜ length (now (words .entry)) ≡ 584 ⌝ }
 {
     count(words)
 }
@@ -96,6 +96,7 @@ pub(crate) fn put_counts(words: &mut [usize; WORDS], c: Counts)
     words[4] = metadata_size(m);
     words[5] = word(c.unique);
     words[6] = word(c.finished);
+    words[7] = c.floor;
 }
 
 pub(crate) fn put_container(words: &mut [usize; WORDS], d: usize, k: Container)
@@ -103,7 +104,7 @@ pub(crate) fn put_container(words: &mut [usize; WORDS], d: usize, k: Container)
     ensures { λ _. ⌜ PutsContainer (now (words .entry)) (now (words .exit)) d k ⌝ }
 {
     whole(words);
-    let p = 7 + 9 * d;
+    let p = 8 + 9 * d;
     let e = k.parent;
     words[p] = k.value;
     words[p + 1] = k.names;
@@ -127,6 +128,7 @@ pub(crate) fn counts_of(words: &[usize; WORDS]) -> Counts
         dictionary: m,
         unique: flag(words[5]),
         finished: flag(words[6]),
+        floor: words[7],
     }
 }
 
@@ -136,7 +138,7 @@ fn container_at(words: &[usize; WORDS], d: usize) -> Container
     if 64 <= d {
         return no_container();
     }
-    let p = 7 + 9 * d;
+    let p = 8 + 9 * d;
     let e = parent_entry(words[p + 4], words[p + 5], words[p + 6]);
     Container {
         value: words[p],
@@ -209,8 +211,8 @@ fn under(words: &[usize; WORDS], i: usize) -> bool
     requires { ⌜ i < 64 ⌝ }
     ensures { λ r. ⌜ r ≡ underOf (containerAt (containersOf (now (words .entry))) (i - 1)) (containerAt (containersOf (now (words .entry))) i) ⌝ }
 {
-    let p = 7 + 9 * (i - 1);
-    let q = 7 + 9 * i;
+    let p = 8 + 9 * (i - 1);
+    let q = 8 + 9 * i;
     (words[p] <= words[q])
         & ((words[p + 1] <= words[q + 1])
             & ((words[p + 2] <= words[q + 2]) & (words[p + 3] <= words[q + 3])))

@@ -13,7 +13,7 @@ use Rattle.container.specs.Entries.{Searches, roomFor}
 use Rattle.semantics.specs.declared.ParentEntry.the-variants.{New, Replaced}
 use Rattle.semantics.specs.declared.View.{View}
 use Rattle.semantics.specs.Record.{Storage, close, rollBack, uniqueness, isOpen, inObject, innerSize, parentSize}
-use Rattle.semantics.specs.Damage.{unchained, fallenEnds, misplacedInner, misplacedParent, damagedParent}
+use Rattle.semantics.specs.Damage.{badFloor, fallenEnds, misplacedInner, misplacedParent, damagedParent}
 use Rattle.semantics.specs.Table.{rows, numberOf}
 use Rattle.refusals.specs.declared.numbers.Parent.{Parent}
 use Rattle.refusals.specs.Decide.{ClosesBy, ParentOf, Undoes, brokenOf, finishBy}
@@ -94,4 +94,4 @@ module _ (v : View) (l : Storage) (out : List ℕ) {n : ℕ} (unbroken : brokenO
 -- what the code answers
 pub unique-rows : (v : View) (l : Storage) (u : Bool) → cond (brokenOf v l) 1 (cond (v .counts .finished) 2 (cond (not (inObject v)) 3 0)) ≡ numberOf v l (uniqueness u)
 unfolding first numberOf
-unique-rows v l u = rw (or-false (unchained v))
+unique-rows v l u = rw (or-false (badFloor v))

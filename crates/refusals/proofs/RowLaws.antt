@@ -74,10 +74,10 @@ enter-rows v l named name f into opens own size e s =
     let m = misnamed-by named name v in
     known-front into v l nm f s
     (λ n live. enterBy v (record { field = record { id = 0; place = 0; new = false; live = live }; number = n }) named into opens own (fits (v .counts .value) size (length (l .value))) (length (l .entries)) ≡ first (enterRows v l nm into opens own size))
-    (λ p. rw (b .0, b .1, p))
-    (λ p q. rw (b .0, b .1, p, q, m))
-    (λ p q r. rw (b .0, b .1, p, q, r, m))
-    (λ p q r. rw (b .0, b .1, p, q, r, m))
+    (λ p. rw (b .0, b .1, b .2, p))
+    (λ p q. rw (b .0, b .1, b .2, p, q, m))
+    (λ p q r. rw (b .0, b .1, b .2, p, q, r, m))
+    (λ p q r. rw (b .0, b .1, b .2, p, q, r, m))
 
 -- ---- a number 0: the name has none
 

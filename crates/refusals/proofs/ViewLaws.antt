@@ -15,8 +15,9 @@ use Rattle.container.specs.Entries.{entriesOf, rangeOf, roomFor, seek}
 use Rattle.container.proofs.EntryLaws.{length-entries, seek-bound}
 use Rattle.semantics.specs.declared.View.{View}
 use Rattle.semantics.specs.Record.{Storage, Call, register, append, openIn, close, rollBack, uniqueness, finish}
-use Rattle.semantics.specs.Damage.{overUsed, grown, unchained, fallenEnds, damaged}
+use Rattle.semantics.specs.Damage.{overUsed, grown, unchained, badFloor, fallenEnds, misread, damaged}
 use Rattle.semantics.specs.Table.{rows, numberOf}
+use Rattle.semantics.proofs.Demand1.{damaged-number}
 use Rattle.refusals.specs.Decide.{brokenOf, finishBy}
 
 -- neither test of an `||` that does not hold does
@@ -38,23 +39,17 @@ past false n r e = (refl, e)
 
 -- number 1 does
 pub damaged-broken : (v : View) (l : Storage) (m : Bool) → brokenOf v l ≡ true → damaged v l m ≡ true
-damaged-broken v l m e = go (overUsed v l) (unchained v) e
+damaged-broken v l m e = go (overUsed v l) (unchained v) (badFloor v) e
   where
-    go : (a b : Bool) → (a || b) ≡ true → (a || (b || m)) ≡ true
-    go true b e = refl
-    go false true e = refl
-    go false false e = absurd (true≢false (sym e))
+    go : (a b c : Bool) → (a || (b || c)) ≡ true → (a || (b || (c || m))) ≡ true
+    go true b c e = refl
+    go false true c e = refl
+    go false false true e = refl
+    go false false false e = absurd (true≢false (sym e))
 
 -- so every call has number 1
 pub broken-number : (v : View) (l : Storage) (c : Call) → brokenOf v l ≡ true → numberOf v l c ≡ 1
-unfolding first numberOf
-broken-number v l (register n) e = rw (damaged-broken v l _ e)
-broken-number v l (append nm x) e = rw (damaged-broken v l _ e)
-broken-number v l (openIn nm k) e = rw (damaged-broken v l _ e)
-broken-number v l close e = rw (damaged-broken v l _ e)
-broken-number v l rollBack e = rw (damaged-broken v l _ e)
-broken-number v l (uniqueness u) e = rw (damaged-broken v l _ e)
-broken-number v l (finish out) e = rw (damaged-broken v l _ e)
+broken-number v l c e = damaged-number v l c (damaged-broken v l (misread v l c) e)
 
 -- as has a close by its first three rows
 pub broken-close : (v : View) (l : Storage) → brokenOf v l ≡ true → first (take 3 (rows v l close)) ≡ 1
@@ -72,13 +67,16 @@ broken-finish v l out e = rw (damaged-broken v l (fallenEnds v l) e, e) (one (eq
 
 -- ---- where it does not
 
--- neither of its two tests holds
-pub broken-none : (v : View) (l : Storage) → brokenOf v l ≡ false → (overUsed v l ≡ false) × (unchained v ≡ false)
-broken-none v l e = neither (overUsed v l) (unchained v) e
+-- none of its three tests holds
+pub broken-none : (v : View) (l : Storage) → brokenOf v l ≡ false → (overUsed v l ≡ false) × (unchained v ≡ false) × (badFloor v ≡ false)
+broken-none v l e =
+    let a = neither (overUsed v l) (unchained v || badFloor v) e in
+    let b = neither (unchained v) (badFloor v) (a .1) in
+    (a .0, b .0, b .1)
 
 -- the call's own part is number 1
 pub damaged-none : (v : View) (l : Storage) (x : Bool) → brokenOf v l ≡ false → damaged v l x ≡ x
-damaged-none v l x e = let b = broken-none v l e in rw (b .0, b .1)
+damaged-none v l x e = let b = broken-none v l e in rw (b .0, b .1, b .2)
 
 -- the names and the entries lie within the lent slices
 pub record Within (v : View) (l : Storage) : Type 0 where

@@ -15,7 +15,7 @@ use Rattle.semantics.specs.declared.ParentEntry.{ParentEntry}
 use Rattle.semantics.specs.declared.ParentEntry.the-variants.{New, Replaced}
 use Rattle.semantics.specs.declared.View.{View}
 use Rattle.semantics.specs.Record.{Storage, close, finish, isOpen, inObject, innerEntries, parentSize, parentEntries, uniqueNow}
-use Rattle.semantics.specs.Damage.{damaged, fallenEnds, misplacedInner, overUsed, unchained, misplacedParent, orphaned}
+use Rattle.semantics.specs.Damage.{damaged, fallenEnds, misplacedInner, overUsed, unchained, badFloor, misplacedParent, orphaned}
 use Rattle.semantics.specs.Table.{rows, held, liveUnder, badName, misnamed, namesFull, secondTop, tooLong}
 use Rattle.semantics.specs.Step.{idFor, placeFor}
 use Rattle.refusals.specs.declared.Field.{Field}
@@ -63,7 +63,7 @@ pub record Undoes (n : ℕ) (v : View) (l : Storage) (r : Undone) : Type 0 where
 
 -- number 1's part that every call asks
 abbrev pub brokenOf : View → Storage → Bool
-brokenOf v l = overUsed v l || unchained v
+brokenOf v l = overUsed v l || (unchained v || badFloor v)
 
 -- a close's by rows 1 to 3, and the largest id of the innermost's entries
 pub record ClosesBy (v : View) (l : Storage) (r : Closing) : Type 0 where

@@ -20,6 +20,7 @@ use metadata::intact;
 use metadata::num_field_names;
 use semantics::ParentEntry;
 use semantics::View;
+use semantics::good_floor;
 ghost use mathlib.Core.Path.{_≡_};
 ghost use mathlib.Core.Bool.{Bool};
 ghost use mathlib.Core.List.{List};
@@ -28,7 +29,7 @@ ghost use lib.ListN.{length};
 ghost use Rattle.encoding.specs.Rows.{first};
 ghost use Rattle.container.specs.Entries.{roomFor};
 ghost use Rattle.semantics.specs.Record.{rollBack, uniqueness, storageOf};
-ghost use Rattle.semantics.specs.Table.{numberOf};
+ghost use Rattle.semantics.specs.Table.{makeRows, numberOf};
 ghost use Rattle.refusals.specs.Decide.{ClosesBy, Decides, ParentOf, enterBy, enterRows, finishBy, fullBy, rowsBy, Undoes, decidedOf, nameOf};
 
 // A register's, an append's and an open's. `into` is false of a register, which enters nothing into a container, whatever is open;
@@ -222,6 +223,13 @@ pub fn unique_number(v: View, value: &[u8], text: &[u8], ends: &[usize], entries
 {
     let bad = broken(v, value, text, ends, entries);
     row(bad, 1, row(v.counts.finished, 2, row(!in_object(v), 3, 0)))
+}
+
+// A builder to be made: 24 for a floor that is not 1 to 4.
+pub fn make_number(floor: usize) -> u8
+    ensures { λ r. ⌜ r ≡ first (makeRows floor) ⌝ }
+{
+    row(!good_floor(floor), 24, 0)
 }
 
 fn decided(n: u8, g: Field) -> Decided

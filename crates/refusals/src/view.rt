@@ -4,6 +4,7 @@ use metadata::exceeds;
 use metadata::metadata_size;
 use metadata::num_field_names;
 use semantics::View;
+use semantics::good_floor;
 ghost use mathlib.Core.Path.{_≡_};
 ghost use mathlib.Core.Bool.{cond};
 ghost use Prim.Native.Nat.{_-_};
@@ -39,7 +40,7 @@ pub(crate) fn broken(v: View, value: &[u8], text: &[u8], ends: &[usize], entries
     let c = v.counts;
     let m = c.dictionary;
     ((counted(value.len()) < c.value) | (exceeds(m, text, ends) | (entries.len() / 2 < c.entries)))
-        | !(v.chain & grown(v))
+        | (!(v.chain & grown(v)) | !good_floor(c.floor))
 }
 
 // Do the innermost's starting marks lie within the used counts?

@@ -2,20 +2,21 @@
 -- and comes exactly under its row where no earlier row's test holds.
 use mathlib.Core.Path.{_≡_, refl, sym}
 use mathlib.Core.Logic.{_↔_, _⊎_}
-use mathlib.Core.Bool.{Bool, true, false}
+use mathlib.Core.Bool.{Bool, true, false, _||_}
 use mathlib.Core.List.{[]}
 use mathlib.Core.Option.{Option}
 use Prim.Native.Nat.{ℕ}
 use lib.Dec.{eqb}
 use lib.ListN.{length}
 use borrow.Author.Tests.{eqb-true}
-use Rattle.encoding.specs.Rows.{testOf, FirstHolds, Clear, order, listed, inOrder}
+use Rattle.encoding.specs.Rows.{first, testOf, FirstHolds, Clear, order, listed, inOrder}
 use Rattle.encoding.proofs.RowsLaws.{first-exact, first-listed, first-none, clear-at, clear-around}
 use Rattle.value.specs.Scalar.{scalarBytes}
 use Rattle.metadata.specs.Names.{Name}
 use Rattle.semantics.specs.declared.View.{View}
-use Rattle.semantics.specs.Record.{Storage, State, viewOf, Scalars, fixed, bytes, uuid, Call, register, append, openIn, close, rollBack, uniqueness, finish, scalarOf}
-use Rattle.semantics.specs.Table.{scalarRows, frontRows, backRows, appendRows, rows, numberOf}
+use Rattle.semantics.specs.Record.{Storage, State, viewOf, Scalars, fixed, bytes, uuid, Call, register, append, openIn, close, rollBack, uniqueness, finish, scalarOf, goodFloor}
+use Rattle.semantics.specs.Damage.{overUsed, unchained, badFloor, misread, damaged}
+use Rattle.semantics.specs.Table.{scalarRows, frontRows, backRows, appendRows, rows, makeRows, numberOf}
 use Rattle.semantics.specs.Step.{step, lentOutput}
 
 -- the rows of each call are in the table's order
@@ -29,6 +30,10 @@ in-order v l close = refl
 in-order v l rollBack = refl
 in-order v l (uniqueness u) = refl
 in-order v l (finish out) = refl
+
+-- so is that of a builder being made
+pub make-order : (floor : ℕ) → inOrder order (makeRows floor) ≡ true
+make-order floor = refl
 
 -- so are a scalar's own
 pub scalar-order : (x : Scalars) → inOrder order (scalarRows x) ≡ true
@@ -61,6 +66,27 @@ pub append-at : (v : View) (l : Storage) (nm : Option Name) (x : Scalars) → nu
 append-at v l nm x h n =
     let size = length (scalarBytes (scalarOf x)) in
     clear-at n (appendRows v l nm [] size) (clear-around (frontRows v l nm) (scalarRows x) (backRows v l nm size) (number-none v l (append nm x) .0 h))
+
+-- number 1 comes first
+pub damaged-number : (v : View) (l : Storage) (c : Call) → damaged v l (misread v l c) ≡ true → numberOf v l c ≡ 1
+unfolding first numberOf
+damaged-number v l (register n) e = rw e
+damaged-number v l (append nm x) e = rw e
+damaged-number v l (openIn nm k) e = rw e
+damaged-number v l close e = rw e
+damaged-number v l rollBack e = rw e
+damaged-number v l (uniqueness u) e = rw e
+damaged-number v l (finish out) e = rw e
+
+-- so that a builder which holds another floor than 1 to 4 has it at every call
+pub floor-number : (v : View) (l : Storage) (c : Call) → goodFloor (v .counts .floor) ≡ false → numberOf v l c ≡ 1
+unfolding badFloor
+floor-number v l c e = damaged-number v l c (rw e (late (overUsed v l) (unchained v)))
+  where
+    late : (a b : Bool) → (a || (b || true)) ≡ true
+    late true b = refl
+    late false true = refl
+    late false false = refl
 
 -- "after a number the builder and all the storage are as before", the output of a finish too
 pub number-leaves : (s : State) (c : Call) → (step s c .number ≡ 0 → ⊥) → (step s c .state ≡ s) × (step s c .output ≡ lentOutput c) × (step s c .written ≡ 0)

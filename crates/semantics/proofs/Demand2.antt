@@ -18,12 +18,12 @@ use Rattle.semantics.specs.Record.{State, viewOf, fixed, bytes, uuid, Ca
 use Rattle.semantics.specs.Step.{step, after, finished, dictionaryOf}
 use Rattle.semantics.specs.Tree.{Tree, encode}
 use Rattle.semantics.specs.Ledger.{Lent, Account, refusalOf, refusalRows}
-use Rattle.semantics.specs.Run.{Fresh, FinishedRun, AcceptedFinish, run, valueBytes, dictionaryBytes, runNames, kept, keptDictionary, accountOf, lentBy}
+use Rattle.semantics.specs.Run.{Fresh, FinishedRun, floorOf, AcceptedFinish, run, valueBytes, dictionaryBytes, runNames, kept, keptDictionary, accountOf, lentBy}
 use Rattle.semantics.proofs.Demand1.{step-number}
 use Rattle.semantics.proofs.Machine.{anyOpen}
 use Rattle.semantics.proofs.Refinement.{represents-value, represents-dictionary, WritesDictionary, represents-finish}
 use Rattle.semantics.proofs.Simulation.{linked-top, linked-value}
-use Rattle.semantics.proofs.RunLaws.{Follows, follows-run, follows-number, follows-none, step-done, run-ends, run-history}
+use Rattle.semantics.proofs.RunLaws.{Follows, follows-run, follows-number, follows-none, step-done, run-ends, run-history, account-floor}
 
 -- ---- the numbers
 
@@ -72,13 +72,16 @@ module _ (s : State) (cs : List Call) (r : FinishedRun s cs) where
   last-writes : WritesDictionary found (at-last .machine) (run-ends r .out)
   last-writes = represents-finish (at-last .represents) (run-ends r .out) (sym (step-number found last) ∙ run-ends r .number)
 
+  last-floor : at-last .machine .floor ≡ floorOf s
+  last-floor = at-last .linked .floor ∙ account-floor s (run-ends r .before)
+
   last-names : at-last .machine .names ≡ kept s cs .names
   unfolding kept
   last-names = at-last .linked .names ∙ ap (λ z. z .names) (sym (run-history r))
 
   -- the dictionary that the machine's names give
-  last-dictionary : dictionary (at-last .machine .names) ≡ keptDictionary s cs
-  last-dictionary = ap dictionary last-names
+  last-dictionary : dictionary (at-last .machine .floor) (at-last .machine .names) ≡ keptDictionary s cs
+  last-dictionary = λ i. dictionary (last-floor i) (last-names i)
 
   -- few enough for ids of four bytes, since their dictionary was written
   pub names-few : length (kept s cs .names) ≤ 256 ^ 4
@@ -96,7 +99,7 @@ unfolding valueBytes after finished
 finish-value s out = refl
 
 -- THE VALUE: a finished run has a top value, and its value bytes are that value's.
-pub value : (s : State) (cs : List Call) → FinishedRun s cs → (t : Tree) × (kept s cs .top ≡ some t) × (valueBytes (run s cs) ≡ encode (kept s cs .names) t)
+pub value : (s : State) (cs : List Call) → FinishedRun s cs → (t : Tree) × (kept s cs .top ≡ some t) × (valueBytes (run s cs) ≡ encode (floorOf s) (kept s cs .names) t)
 unfolding kept
 value s cs r =
     let x = at-last s cs r in
@@ -106,7 +109,7 @@ value s cs r =
     let t = linked-top (x .linked) shut .1 (omega (arith, eqb-false (length (m .bytes)) 0 (clear 15))) in
     let same : valueBytes (run s cs) ≡ m .bytes =
     ap valueBytes (run-ends r .state) ∙ (ap (λ o. valueBytes (o .state)) (last-done s cs r) ∙ (finish-value (found s cs r) (run-ends r .out) ∙ represents-value (x .represents))) in
-    (t .0, ap (λ z. z .top) (run-history r) ∙ t .1, same ∙ (linked-value (x .linked) shut (t .0) (t .1) ∙ ap (λ z. encode (z .names) (t .0)) (sym (run-history r))))
+    (t .0, ap (λ z. z .top) (run-history r) ∙ t .1, same ∙ (linked-value (x .linked) shut (t .0) (t .1) ∙ (λ i. encode (account-floor s (run-ends r .before) i) (sym (run-history r) i .names) (t .0))))
 
 -- ---- the dictionary
 

@@ -15,7 +15,7 @@ use Rattle.metadata.specs.Names.{Name}
 use Rattle.container.proofs.EntryLaws.{fronted-behind}
 use Rattle.semantics.specs.declared.View.{View}
 use Rattle.semantics.specs.Record.{Storage, State, Scalars, scalarOf, Call, register, append, openIn, close, rollBack, uniqueness, finish, viewOf}
-use Rattle.semantics.specs.Damage.{misread, overUsed, unchained, grown}
+use Rattle.semantics.specs.Damage.{misread, badFloor, overUsed, unchained, grown}
 use Rattle.semantics.specs.Table.{header, numberOf}
 use Rattle.semantics.specs.Step.{step, after, registered, appended, opened, closed, rolledBack, finished, dictionaryOf}
 use Rattle.semantics.proofs.Demand1.{append-at, none-at, number-leaves, step-number}
@@ -38,7 +38,8 @@ module _ (v : View) (l : Storage) where
   close-inside : numberOf v l close ≡ 0 → v .inner .value ≤ v .counts .value
   unfolding unchained
   close-inside z =
-      let u = neither (unchained v) (misread v l close) (neither (overUsed v l) (unchained v || misread v l close) (none-at v l close z 1) .1) .0 in
+      let rest = badFloor v || misread v l close in
+      let u = neither (unchained v) rest (neither (overUsed v l) (unchained v || rest) (none-at v l close z 1) .1) .0 in
       let g = and-eq-true-iff (v .chain) (grown v) .0 (not-false _ u) .1 in
       leb-true (v .inner .value) (v .counts .value) (and-eq-true-iff (leb (v .inner .value) (v .counts .value)) _ .0 g .0)
     where

@@ -502,7 +502,7 @@ fed-formed h c true u w = w
 fed-formed h c false u w = accepted-formed h c (u refl) w
 
 -- the kept top value is sound where its bytes are few
-pub kept-sound : {t : Tree} (s : State) (cs : List Call) → WellFormed (historyOf s cs) → kept s cs .top ≡ some t → length (encode (kept s cs .names) t) < 256 ^ 4
-    → Sound (kept s cs .names) t
+pub kept-sound : (floor : ℕ) {t : Tree} (s : State) (cs : List Call) → WellFormed (historyOf s cs) → kept s cs .top ≡ some t → length (encode floor (kept s cs .names) t) < 256 ^ 4
+    → Sound floor (kept s cs .names) t
 unfolding kept
-kept-sound s cs w e h = record { formed = rw e at (w .formedTop); held = rw e at (kept-held s cs); small = h }
+kept-sound floor s cs w e h = record { formed = rw e at (w .formedTop); held = rw e at (kept-held s cs); small = h }

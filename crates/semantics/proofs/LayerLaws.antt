@@ -136,39 +136,39 @@ below-mem b (e ∷ es) h x (inr k) = below-mem b es (h .1) x k
 
 -- ---- an item goes last
 
-module _ (ns : List Name) where
-  data-snoc : (is : Items) (m : Mark) (t : Tree) → dataOf (partsOf ns (snoc is m t)) ≡ dataOf (partsOf ns is) ++ encode ns t
-  unfolding partsOf snoc dataOf
-  data-snoc empty m t = append-nil (encode ns t)
-  data-snoc (item k u is) m t = ap (λ b. encode ns u ++ b) (data-snoc is m t) ∙ sym (append-assoc (encode ns u) (dataOf (partsOf ns is)) (encode ns t))
+field-behind : (ns : List Name) (at : ℕ) (m : Mark) (es fs : List Entry) → withField ns at m (es ++ fs) ≡ withField ns at m es ++ fs
+unfolding withField
+field-behind ns at element es fs = refl
+field-behind ns at (live n) es fs = refl
+field-behind ns at replaced es fs = refl
 
-  starts-snoc : (at : ℕ) (is : Items) (m : Mark) (t : Tree) → startsFrom at (partsOf ns (snoc is m t)) ≡ startsFrom at (partsOf ns is) ++ ((at + length (dataOf (partsOf ns is))) ∷ [])
+module _ (floor : ℕ) (ns : List Name) where
+  data-snoc : (is : Items) (m : Mark) (t : Tree) → dataOf (partsOf floor ns (snoc is m t)) ≡ dataOf (partsOf floor ns is) ++ encode floor ns t
+  unfolding partsOf snoc dataOf
+  data-snoc empty m t = append-nil (encode floor ns t)
+  data-snoc (item k u is) m t = ap (λ b. encode floor ns u ++ b) (data-snoc is m t) ∙ sym (append-assoc (encode floor ns u) (dataOf (partsOf floor ns is)) (encode floor ns t))
+
+  starts-snoc : (at : ℕ) (is : Items) (m : Mark) (t : Tree) → startsFrom at (partsOf floor ns (snoc is m t)) ≡ startsFrom at (partsOf floor ns is) ++ ((at + length (dataOf (partsOf floor ns is))) ∷ [])
   unfolding partsOf snoc startsFrom dataOf
   starts-snoc at empty m t = ap (λ n. n ∷ []) (sym (add-zero at))
   starts-snoc at (item k u is) m t =
-      let e : at + length (encode ns u) + length (dataOf (partsOf ns is)) ≡ at + length (encode ns u ++ dataOf (partsOf ns is)) = omega (arith, length-append (encode ns u) (dataOf (partsOf ns is))) in
-      rw (starts-snoc (at + length (encode ns u)) is m t, e)
-
-  field-behind : (at : ℕ) (m : Mark) (es fs : List Entry) → withField ns at m (es ++ fs) ≡ withField ns at m es ++ fs
-  unfolding withField
-  field-behind at element es fs = refl
-  field-behind at (live n) es fs = refl
-  field-behind at replaced es fs = refl
+      let e : at + length (encode floor ns u) + length (dataOf (partsOf floor ns is)) ≡ at + length (encode floor ns u ++ dataOf (partsOf floor ns is)) = omega (arith, length-append (encode floor ns u) (dataOf (partsOf floor ns is))) in
+      rw (starts-snoc (at + length (encode floor ns u)) is m t, e)
 
   fields-snoc : (at : ℕ) (is : Items) (m : Mark) (t : Tree)
-      → fieldsFrom ns at (partsOf ns (snoc is m t)) ≡ fieldsFrom ns at (partsOf ns is) ++ withField ns (at + length (dataOf (partsOf ns is))) m []
+      → fieldsFrom ns at (partsOf floor ns (snoc is m t)) ≡ fieldsFrom ns at (partsOf floor ns is) ++ withField ns (at + length (dataOf (partsOf floor ns is))) m []
   unfolding partsOf snoc fieldsFrom dataOf
   fields-snoc at empty m t = ap (λ n. withField ns n m []) (sym (add-zero at))
   fields-snoc at (item k u is) m t =
-      let e : at + length (encode ns u) + length (dataOf (partsOf ns is)) ≡ at + length (encode ns u ++ dataOf (partsOf ns is)) = omega (arith, length-append (encode ns u) (dataOf (partsOf ns is))) in
-      rw (fields-snoc (at + length (encode ns u)) is m t, e) (field-behind at k (fieldsFrom ns (at + length (encode ns u)) (partsOf ns is)) _)
+      let e : at + length (encode floor ns u) + length (dataOf (partsOf floor ns is)) ≡ at + length (encode floor ns u ++ dataOf (partsOf floor ns is)) = omega (arith, length-append (encode floor ns u) (dataOf (partsOf floor ns is))) in
+      rw (fields-snoc (at + length (encode floor ns u)) is m t, e) (field-behind ns at k (fieldsFrom ns (at + length (encode floor ns u)) (partsOf floor ns is)) _)
 
   -- ---- a name that is live elsewhere
 
-  data-replace : (n : Name) (is : Items) → dataOf (partsOf ns (replace n is)) ≡ dataOf (partsOf ns is)
+  data-replace : (n : Name) (is : Items) → dataOf (partsOf floor ns (replace n is)) ≡ dataOf (partsOf floor ns is)
   unfolding partsOf replace dataOf
   data-replace n empty = refl
-  data-replace n (item m t is) = ap (λ b. encode ns t ++ b) (data-replace n is)
+  data-replace n (item m t is) = ap (λ b. encode floor ns t ++ b) (data-replace n is)
 
 -- fs are the entries es but those of id i
 abbrev Without : ℕ → List Entry → List Entry → Type 0
@@ -193,10 +193,10 @@ module _ (ns : List Name) (n : Name) (held : place n ns < length ns) where
         λ k d. elim k [ inl q ↦ inl q | inr j ↦ inr (w x .1 j d) ],
       )
 
-  replace-without : (at : ℕ) (is : Items) → HeldItems ns is → Without (place n ns) (fieldsFrom ns at (partsOf ns is)) (fieldsFrom ns at (partsOf ns (replace n is)))
+  replace-without : (floor at : ℕ) (is : Items) → HeldItems ns is → Without (place n ns) (fieldsFrom ns at (partsOf floor ns is)) (fieldsFrom ns at (partsOf floor ns (replace n is)))
   unfolding partsOf replace fieldsFrom
-  replace-without at empty h x = ((λ k. absurd k), λ k d. absurd k)
-  replace-without at (item m t is) h x = field-without at m _ _ (h .0) (replace-without (at + length (encode ns t)) is (h .2)) x
+  replace-without floor at empty h x = ((λ k. absurd k), λ k d. absurd k)
+  replace-without floor at (item m t is) h x = field-without at m _ _ (h .0) (replace-without floor (at + length (encode floor ns t)) is (h .2)) x
 
 -- ---- a layer
 
@@ -206,34 +206,34 @@ pub record Fields (ns : List Name) (seg fields : List Entry) : Type 0 where
   pub outof : Incl fields seg
   pub apart : IdsApart seg
 
-abbrev pub Ents : Bool → List Name → List Entry → Items → Type 0
-Ents false ns seg is = offsetsOf seg ≡ startsFrom 0 (partsOf ns is)
-Ents true ns seg is = Fields ns seg (fieldsFrom ns 0 (partsOf ns is))
+abbrev pub Ents : ℕ → Bool → List Name → List Entry → Items → Type 0
+Ents floor false ns seg is = offsetsOf seg ≡ startsFrom 0 (partsOf floor ns is)
+Ents floor true ns seg is = Fields ns seg (fieldsFrom ns 0 (partsOf floor ns is))
 
 -- where these are the names, a container of that kind with these entries and data has these items
-pub record Layer (ns : List Name) (object : Bool) (is : Items) (seg : List Entry) (bs : List ℕ) : Type 0 where
-  pub body : bs ≡ dataOf (partsOf ns is)
-  pub entries : Ents object ns seg is
+pub record Layer (floor : ℕ) (ns : List Name) (object : Bool) (is : Items) (seg : List Entry) (bs : List ℕ) : Type 0 where
+  pub body : bs ≡ dataOf (partsOf floor ns is)
+  pub entries : Ents floor object ns seg is
 
 -- nothing is in it yet
-pub layer-new : (ns : List Name) (object : Bool) → Layer ns object empty [] []
+pub layer-new : (floor : ℕ) (ns : List Name) (object : Bool) → Layer floor ns object empty [] []
 unfolding partsOf dataOf startsFrom fieldsFrom
-layer-new ns false = record { body = refl; entries = refl }
-layer-new ns true = record { body = refl; entries = record { into = λ x m. m; outof = λ x m. m; apart = tt } }
+layer-new floor ns false = record { body = refl; entries = refl }
+layer-new floor ns true = record { body = refl; entries = record { into = λ x m. m; outof = λ x m. m; apart = tt } }
 
 -- names that come later change nothing
-pub layer-grows : {ns ms : List Name} (object : Bool) (is : Items) {seg : List Entry} {bs : List ℕ} → Extends ns ms → HeldItems ns is → Layer ns object is seg bs → Layer ms object is seg bs
-layer-grows {ns} {ms} object is {seg} {bs} e h l =
-    subst (λ (z : List Name). Layer z object is seg bs) (sym (e .grown))
+pub layer-grows : {floor : ℕ} {ns ms : List Name} (object : Bool) (is : Items) {seg : List Entry} {bs : List ℕ} → Extends ns ms → HeldItems ns is → Layer floor ns object is seg bs → Layer floor ms object is seg bs
+layer-grows {floor} {ns} {ms} object is {seg} {bs} e h l =
+    subst (λ (z : List Name). Layer floor z object is seg bs) (sym (e .grown))
     (record { body = l .body ∙ ap dataOf (sym p); entries = go object (l .entries) })
   where
-    p : partsOf (ns ++ e .more) is ≡ partsOf ns is
-    p = parts-grow ns (e .more) is h
+    p : partsOf floor (ns ++ e .more) is ≡ partsOf floor ns is
+    p = parts-grow floor ns (e .more) is h
 
-    q : fieldsFrom (ns ++ e .more) 0 (partsOf (ns ++ e .more) is) ≡ fieldsFrom ns 0 (partsOf ns is)
-    q = ap (fieldsFrom (ns ++ e .more) 0) p ∙ fields-grow ns (e .more) 0 is h
+    q : fieldsFrom (ns ++ e .more) 0 (partsOf floor (ns ++ e .more) is) ≡ fieldsFrom ns 0 (partsOf floor ns is)
+    q = ap (fieldsFrom (ns ++ e .more) 0) p ∙ fields-grow floor ns (e .more) 0 is h
 
-    go : (k : Bool) → Ents k ns seg is → Ents k (ns ++ e .more) seg is
+    go : (k : Bool) → Ents floor k ns seg is → Ents floor k (ns ++ e .more) seg is
     go false f = f ∙ ap (startsFrom 0) (sym p)
     go true f = record { into = rw q (f .into); outof = rw q (f .outof); apart = f .apart }
 
@@ -257,29 +257,29 @@ offsets-snoc [] e = refl
 offsets-snoc (f ∷ es) e = ap (λ z. f .offset ∷ z) (offsets-snoc es e)
 
 -- A VALUE ENTERS: in the machine a note and bytes, in the history an item.
-pub layer-enter : (ns : List Name) (object : Bool) (is : Items) (seg : List Entry) (bs : List ℕ) (nm : Option Name) (t : Tree) → HeldItems ns is → Named object nm → HeldName ns nm
-    → Layer ns object is seg bs → Layer ns object (entered nm t is) (noteIn ns nm (length bs) seg) (bs ++ encode ns t)
+pub layer-enter : (floor : ℕ) (ns : List Name) (object : Bool) (is : Items) (seg : List Entry) (bs : List ℕ) (nm : Option Name) (t : Tree) → HeldItems ns is → Named object nm → HeldName ns nm
+    → Layer floor ns object is seg bs → Layer floor ns object (entered nm t is) (noteIn ns nm (length bs) seg) (bs ++ encode floor ns t)
 unfolding entered noteIn withField
-layer-enter ns true is seg bs none t h n k l = absurd n
-layer-enter ns false is seg bs (some x) t h n k l = absurd n
-layer-enter ns false is seg bs none t h n k l =
-    let z : 0 + length (dataOf (partsOf ns is)) ≡ length bs = zero-add (length (dataOf (partsOf ns is))) ∙ ap length (sym (l .body)) in
+layer-enter floor ns true is seg bs none t h n k l = absurd n
+layer-enter floor ns false is seg bs (some x) t h n k l = absurd n
+layer-enter floor ns false is seg bs none t h n k l =
+    let z : 0 + length (dataOf (partsOf floor ns is)) ≡ length bs = zero-add (length (dataOf (partsOf floor ns is))) ∙ ap length (sym (l .body)) in
     record {
-      body = ap (λ b. b ++ encode ns t) (l .body) ∙ sym (data-snoc ns is element t);
-      entries = offsets-snoc seg (entry 0 (length bs)) ∙ (ap (λ os. os ++ (length bs ∷ [])) (l .entries) ∙ sym (starts-snoc ns 0 is element t ∙ ap (λ o. startsFrom 0 (partsOf ns is) ++ (o ∷ [])) z));
+      body = ap (λ b. b ++ encode floor ns t) (l .body) ∙ sym (data-snoc floor ns is element t);
+      entries = offsets-snoc seg (entry 0 (length bs)) ∙ (ap (λ os. os ++ (length bs ∷ [])) (l .entries) ∙ sym (starts-snoc floor ns 0 is element t ∙ ap (λ o. startsFrom 0 (partsOf floor ns is) ++ (o ∷ [])) z));
     }
-layer-enter ns true is seg bs (some n) t h nm k l =
+layer-enter floor ns true is seg bs (some n) t h nm k l =
     let i = place n ns in
     let o = length bs in
     let rs = replace n is in
-    let d = data-replace ns n is in
-    let z : 0 + length (dataOf (partsOf ns rs)) ≡ o = zero-add (length (dataOf (partsOf ns rs))) ∙ ap length (d ∙ sym (l .body)) in
-    let fs = fieldsFrom ns 0 (partsOf ns rs) in
-    let e : fieldsFrom ns 0 (partsOf ns (snoc rs (live n) t)) ≡ fs ++ (entry i o ∷ []) = fields-snoc ns 0 rs (live n) t ∙ ap (λ a. fs ++ (entry i a ∷ [])) z in
-    let u : Fields ns seg (fieldsFrom ns 0 (partsOf ns is)) = l .entries in
-    let w = replace-without ns n k 0 is h in
+    let d = data-replace floor ns n is in
+    let z : 0 + length (dataOf (partsOf floor ns rs)) ≡ o = zero-add (length (dataOf (partsOf floor ns rs))) ∙ ap length (d ∙ sym (l .body)) in
+    let fs = fieldsFrom ns 0 (partsOf floor ns rs) in
+    let e : fieldsFrom ns 0 (partsOf floor ns (snoc rs (live n) t)) ≡ fs ++ (entry i o ∷ []) = fields-snoc floor ns 0 rs (live n) t ∙ ap (λ a. fs ++ (entry i a ∷ [])) z in
+    let u : Fields ns seg (fieldsFrom ns 0 (partsOf floor ns is)) = l .entries in
+    let w = replace-without ns n k floor 0 is h in
     record {
-      body = ap (λ b. b ++ encode ns t) (l .body ∙ sym d) ∙ sym (data-snoc ns rs (live n) t);
+      body = ap (λ b. b ++ encode floor ns t) (l .body ∙ sym d) ∙ sym (data-snoc floor ns rs (live n) t);
       entries = record {
         into = λ x m. subst (Mem x) (sym e) (snoc-mem fs (entry i o) x (elim (put-mem i o seg x (u .apart) m) [ inl q ↦ inr q | inr y ↦ inl (w x .1 (u .into x (y .0)) (y .1)) ]));
         outof = λ x m. mem-put i o seg x (elim (mem-snoc fs (entry i o) x (subst (Mem x) e m)) [ inl j ↦ (let g = w x .0 j in inr (u .outof x (g .0), g .1)) | inr q ↦ inl q ]);
@@ -315,14 +315,14 @@ module _ (ns : List Name) (n : Name) where
       go true p = sym (eq-eqb (place m ns) (place n ns) (ap (λ z. place z ns) (same-equal m n p)))
       go false p = sym (ne-eqb (place m ns) (place n ns) (λ e. same-differs m n p (place-inj m n ns h k e)))
 
-  live-fields : (at : ℕ) (is : Items) → HeldItems ns is → place n ns < length ns → isLive n is ≡ hasId (place n ns) (fieldsFrom ns at (partsOf ns is))
+  live-fields : (floor at : ℕ) (is : Items) → HeldItems ns is → place n ns < length ns → isLive n is ≡ hasId (place n ns) (fieldsFrom ns at (partsOf floor ns is))
   unfolding isLive partsOf fieldsFrom withField seek
-  live-fields at empty h k = refl
-  live-fields at (item element t is) h k = live-fields (at + length (encode ns t)) is (h .2) k
-  live-fields at (item replaced t is) h k = live-fields (at + length (encode ns t)) is (h .2) k
-  live-fields at (item (live m) t is) h k =
-      let next = at + length (encode ns t) in
-      (λ i. same-place m (h .0) k i || live-fields next is (h .2) k i) ∙ sym (has-first (place n ns) (entry (place m ns) at) (fieldsFrom ns next (partsOf ns is)))
+  live-fields floor at empty h k = refl
+  live-fields floor at (item element t is) h k = live-fields floor (at + length (encode floor ns t)) is (h .2) k
+  live-fields floor at (item replaced t is) h k = live-fields floor (at + length (encode floor ns t)) is (h .2) k
+  live-fields floor at (item (live m) t is) h k =
+      let next = at + length (encode floor ns t) in
+      (λ i. same-place m (h .0) k i || live-fields floor next is (h .2) k i) ∙ sym (has-first (place n ns) (entry (place m ns) at) (fieldsFrom ns next (partsOf floor ns is)))
 
   not-held : (is : Items) → HeldItems ns is → length ns ≤ place n ns → isLive n is ≡ false
   unfolding isLive
@@ -337,76 +337,76 @@ module _ (ns : List Name) (n : Name) where
 
 -- ---- how many
 
-ids-fields : (ns : List Name) (at : ℕ) (is : Items) → idsOf (fieldsFrom ns at (partsOf ns is)) ≡ liveIds ns is
+ids-fields : (floor : ℕ) (ns : List Name) (at : ℕ) (is : Items) → idsOf (fieldsFrom ns at (partsOf floor ns is)) ≡ liveIds ns is
 unfolding partsOf fieldsFrom withField liveIds
-ids-fields ns at empty = refl
-ids-fields ns at (item element t is) = ids-fields ns (at + length (encode ns t)) is
-ids-fields ns at (item (live n) t is) = ap (λ z. place n ns ∷ z) (ids-fields ns (at + length (encode ns t)) is)
-ids-fields ns at (item replaced t is) = ids-fields ns (at + length (encode ns t)) is
+ids-fields floor ns at empty = refl
+ids-fields floor ns at (item element t is) = ids-fields floor ns (at + length (encode floor ns t)) is
+ids-fields floor ns at (item (live n) t is) = ap (λ z. place n ns ∷ z) (ids-fields floor ns (at + length (encode floor ns t)) is)
+ids-fields floor ns at (item replaced t is) = ids-fields floor ns (at + length (encode floor ns t)) is
 
-starts-count : (ns : List Name) (at : ℕ) (is : Items) → length (startsFrom at (partsOf ns is)) ≡ itemCount is
+starts-count : (floor : ℕ) (ns : List Name) (at : ℕ) (is : Items) → length (startsFrom at (partsOf floor ns is)) ≡ itemCount is
 unfolding partsOf startsFrom itemCount
-starts-count ns at empty = refl
-starts-count ns at (item m t is) = omega (arith, starts-count ns (at + length (encode ns t)) is)
+starts-count floor ns at empty = refl
+starts-count floor ns at (item m t is) = omega (arith, starts-count floor ns (at + length (encode floor ns t)) is)
 
 put-count : (i o : ℕ) (es : List Entry) → length (put i o es) ≡ cond (hasId i es) 0 1 + length es
 put-count i o es = put-cases (λ es fs p t. length fs ≡ cond t 0 1 + length es) i o es refl (λ e es p. sym (zero-add (suc (length es)))) (λ e es p h. omega arith)
 
 -- ---- what a layer tells of its entries
 
-module _ {ns : List Name} {is : Items} {seg : List Entry} {bs : List ℕ} (h : HeldItems ns is) where
+module _ {floor : ℕ} {ns : List Name} {is : Items} {seg : List Entry} {bs : List ℕ} (h : HeldItems ns is) where
   -- they are well placed
-  pub layer-placed : (object : Bool) → Layer ns object is seg bs → (x : Entry) → Mem x seg → Placed object (length ns) (length bs) x
+  pub layer-placed : (object : Bool) → Layer floor ns object is seg bs → (x : Entry) → Mem x seg → Placed object (length ns) (length bs) x
   layer-placed false l x m =
-      let b : Below (suc (length bs)) (offsetsOf seg) = rw (l .entries) (starts-bounded 0 (length bs) (partsOf ns is) (omega (arith, ap length (l .body)))) in
+      let b : Below (suc (length bs)) (offsetsOf seg) = rw (l .entries) (starts-bounded 0 (length bs) (partsOf floor ns is) (omega (arith, ap length (l .body)))) in
       record { within = omega (arith, below-mem (suc (length bs)) seg b x m); held = λ e. absurd (true≢false (sym e)) }
   layer-placed true l x m =
-      placed-all true (length ns) (length bs) (fieldsFrom ns 0 (partsOf ns is)) (fields-placed ns 0 (length bs) is h (omega (arith, ap length (l .body)))) x (l .entries .into x m)
+      placed-all true (length ns) (length bs) (fieldsFrom ns 0 (partsOf floor ns is)) (fields-placed floor ns 0 (length bs) is h (omega (arith, ap length (l .body)))) x (l .entries .into x m)
 
   -- a name is live exactly where it is held and has an entry
-  pub layer-live : Layer ns true is seg bs → (n : Name) → (ltb (place n ns) (length ns) && hasId (place n ns) seg) ≡ isLive n is
+  pub layer-live : Layer floor ns true is seg bs → (n : Name) → (ltb (place n ns) (length ns) && hasId (place n ns) seg) ≡ isLive n is
   layer-live l n = go (ltb (place n ns) (length ns)) refl
     where
       go : (t : Bool) → ltb (place n ns) (length ns) ≡ t → (t && hasId (place n ns) seg) ≡ isLive n is
-      go true p = has-same (place n ns) seg (fieldsFrom ns 0 (partsOf ns is)) (l .entries .into) (l .entries .outof) ∙ sym (live-fields ns n 0 is h (ltb-true (place n ns) (length ns) p))
+      go true p = has-same (place n ns) seg (fieldsFrom ns 0 (partsOf floor ns is)) (l .entries .into) (l .entries .outof) ∙ sym (live-fields ns n floor 0 is h (ltb-true (place n ns) (length ns) p))
       go false p = sym (not-held ns n is h (ltb-false (place n ns) (length ns) p))
 
   -- sorted, an object's are those of its live items
-  pub layer-sorted : dictionary.Distinct ns → ApartItems is → Layer ns true is seg bs → sort ns seg ≡ sort ns (fieldsFrom ns 0 (partsOf ns is))
+  pub layer-sorted : dictionary.Distinct ns → ApartItems is → Layer floor ns true is seg bs → sort ns seg ≡ sort ns (fieldsFrom ns 0 (partsOf floor ns is))
   layer-sorted d a l =
-      sort-unique ns seg (fieldsFrom ns 0 (partsOf ns is)) (names-apart seg (λ x m. layer-placed true l x m .held refl) (l .entries .apart)) (fields-apart ns 0 is h a) (l .entries .into) (l .entries .outof)
+      sort-unique ns seg (fieldsFrom ns 0 (partsOf floor ns is)) (names-apart seg (λ x m. layer-placed true l x m .held refl) (l .entries .apart)) (fields-apart floor ns 0 is h a) (l .entries .into) (l .entries .outof)
     where
       names-apart : (es : List Entry) → ((x : Entry) → Mem x es → x .id < length ns) → IdsApart es → Distinct ns es
       names-apart [] b c = tt
       names-apart (e ∷ es) b c = ((λ y m z. c .0 y m (d .one (y .id) (e .id) (b y (inr m)) (b e (inl refl)) z)), names-apart es (λ x m. b x (inr m)) (c .1))
 
   -- they are as many as the ledger counts
-  pub layer-count : (object : Bool) → dictionary.Distinct ns → ApartItems is → Layer ns object is seg bs → length seg ≡ cond object (length (liveIds ns is)) (itemCount is)
-  layer-count false d a l = sym (length-map seg (λ e. e .offset)) ∙ (ap length (l .entries) ∙ starts-count ns 0 is)
+  pub layer-count : (object : Bool) → dictionary.Distinct ns → ApartItems is → Layer floor ns object is seg bs → length seg ≡ cond object (length (liveIds ns is)) (itemCount is)
+  layer-count false d a l = sym (length-map seg (λ e. e .offset)) ∙ (ap length (l .entries) ∙ starts-count floor ns 0 is)
   layer-count true d a l =
-      let fs = fieldsFrom ns 0 (partsOf ns is) in
-      sym (length-sort ns seg) ∙ (ap length (layer-sorted d a l) ∙ (length-sort ns fs ∙ (sym (length-map fs (λ e. e .id)) ∙ ap length (ids-fields ns 0 is))))
+      let fs = fieldsFrom ns 0 (partsOf floor ns is) in
+      sym (length-sort ns seg) ∙ (ap length (layer-sorted d a l) ∙ (length-sort ns fs ∙ (sym (length-map fs (λ e. e .id)) ∙ ap length (ids-fields floor ns 0 is))))
 
   -- the header's length is the ledger's
-  pub layer-header : (object : Bool) (size : ℕ) → dictionary.Distinct ns → ApartItems is → Layer ns object is seg bs
-      → length (headerOf ns object seg size) ≡ cond object (objectHeaderSize (length (liveIds ns is)) (largest (liveIds ns is)) size) (listHeaderSize (itemCount is) size)
+  pub layer-header : (object : Bool) (size : ℕ) → dictionary.Distinct ns → ApartItems is → Layer floor ns object is seg bs
+      → length (headerOf floor ns object seg size) ≡ cond object (objectHeaderSize floor (length (liveIds ns is)) (largest (liveIds ns is)) size) (listHeaderSize floor (itemCount is) size)
   unfolding headerOf
-  layer-header false size d a l = length-list-entries seg size ∙ ap (λ n. listHeaderSize n size) (layer-count false d a l)
+  layer-header false size d a l = length-list-entries floor seg size ∙ ap (λ n. listHeaderSize floor n size) (layer-count false d a l)
   layer-header true size d a l =
-      let fs = fieldsFrom ns 0 (partsOf ns is) in
+      let fs = fieldsFrom ns 0 (partsOf floor ns is) in
       let c = layer-count true d a l in
       let b : largest (idsOf seg) ≡ largest (liveIds ns is) =
-      sym (largest-sort ns (λ e. e .id) seg) ∙ (ap (λ (es : List Entry). largest (idsOf es)) (layer-sorted d a l) ∙ (largest-sort ns (λ e. e .id) fs ∙ ap largest (ids-fields ns 0 is))) in
-      length-object-entries ns size seg ∙ (λ i. objectHeaderSize (c i) (b i) size)
+      sym (largest-sort ns (λ e. e .id) seg) ∙ (ap (λ (es : List Entry). largest (idsOf es)) (layer-sorted d a l) ∙ (largest-sort ns (λ e. e .id) fs ∙ ap largest (ids-fields floor ns 0 is))) in
+      length-object-entries ns size seg floor ∙ (λ i. objectHeaderSize floor (c i) (b i) size)
 
   -- THE CLOSE: header and data are the tree's bytes.
-  pub layer-close : (object : Bool) → dictionary.Distinct ns → ApartItems is → Layer ns object is seg bs → headerOf ns object seg (length bs) ++ bs ≡ encode ns (nest object is)
+  pub layer-close : (object : Bool) → dictionary.Distinct ns → ApartItems is → Layer floor ns object is seg bs → headerOf floor ns object seg (length bs) ++ bs ≡ encode floor ns (nest object is)
   unfolding headerOf encode listBytes objectBytes
-  layer-close false d a l = λ i. listHeader (l .entries i) (length (l .body i)) ++ l .body i
-  layer-close true d a l = let p = layer-sorted d a l in λ i. objectHeader (idsOf (p i)) (offsetsOf (p i)) (length (l .body i)) ++ l .body i
+  layer-close false d a l = λ i. listHeader floor (l .entries i) (length (l .body i)) ++ l .body i
+  layer-close true d a l = let p = layer-sorted d a l in λ i. objectHeader floor (idsOf (p i)) (offsetsOf (p i)) (length (l .body i)) ++ l .body i
 
   -- a note adds an entry unless it replaces one
-  pub note-count : (object : Bool) (nm : Option Name) (o : ℕ) → Named object nm → HeldName ns nm → Layer ns object is seg bs → length (noteIn ns nm o seg) ≡ ownEntry nm is + length seg
+  pub note-count : (object : Bool) (nm : Option Name) (o : ℕ) → Named object nm → HeldName ns nm → Layer floor ns object is seg bs → length (noteIn ns nm o seg) ≡ ownEntry nm is + length seg
   unfolding noteIn
   note-count object none o n k l = omega (arith, length-append seg (entry 0 o ∷ []))
   note-count false (some x) o n k l = absurd n

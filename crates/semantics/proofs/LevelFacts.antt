@@ -34,13 +34,13 @@ distinct-before {ns} e d = distinct-front ns (e .more) (rw (e .grown) at d)
 -- ---- counts
 
 -- the bytes are the ledger's total
-pub levels-total : (top : Option Tree) (u : Bool) (ls : List Level) (ks : List Container) (ns : List Name) (s : Used) → Levels top u ls ks ns s → length (s .bytes) ≡ total (s .sums)
+pub levels-total : (floor : ℕ) (top : Option Tree) (u : Bool) (ls : List Level) (ks : List Container) (ns : List Name) (s : Used) → Levels floor top u ls ks ns s → length (s .bytes) ≡ total (s .sums)
 unfolding total
-levels-total top u [] [] ns s x = rw (x .sumsAre) (omega arith)
-levels-total top u [] (k ∷ ks) ns s x = absurd x
-levels-total top u (l ∷ ls) [] ns s x = absurd x
-levels-total top u (l ∷ ls) (k ∷ ks) ns s x =
-    rw (x .sumsAre) (omega (arith, ap length (x .bytesAre), length-append (x .outer .bytes) (x .body), levels-total top u ls ks (l .before) (x .outer) (x .under)))
+levels-total floor top u [] [] ns s x = rw (x .sumsAre) (omega arith)
+levels-total floor top u [] (k ∷ ks) ns s x = absurd x
+levels-total floor top u (l ∷ ls) [] ns s x = absurd x
+levels-total floor top u (l ∷ ls) (k ∷ ks) ns s x =
+    rw (x .sumsAre) (omega (arith, ap length (x .bytesAre), length-append (x .outer .bytes) (x .body), levels-total floor top u ls ks (l .before) (x .outer) (x .under)))
 
 live-count : (ns ms : List Name) (is : Items) → length (liveIds ns is) ≡ length (liveIds ms is)
 unfolding liveIds
@@ -64,13 +64,13 @@ ownIn nm [] = 0
 ownIn nm (l ∷ ls) = ownEntry nm (l .items)
 
 -- a note among the innermost's entries
-noted-count : (top : Option Tree) (u : Bool) (ls : List Level) (ks : List Container) (ns ms : List Name) (s : Used) (nm : Option Name) (at : ℕ) → Extends ns ms → HeldName ms nm
-    → Named (innerObject ls) nm → Chained ns top ls → Levels top u ls ks ns s → length (note ms ks nm at (s .entries)) ≡ ownIn nm ls + length (s .entries)
+noted-count : (floor : ℕ) (top : Option Tree) (u : Bool) (ls : List Level) (ks : List Container) (ns ms : List Name) (s : Used) (nm : Option Name) (at : ℕ) → Extends ns ms → HeldName ms nm
+    → Named (innerObject ls) nm → Chained ns top ls → Levels floor top u ls ks ns s → length (note ms ks nm at (s .entries)) ≡ ownIn nm ls + length (s .entries)
 unfolding note
-noted-count top u [] [] ns ms s nm at e h n c x = omega arith
-noted-count top u [] (k ∷ ks) ns ms s nm at e h n c x = absurd x
-noted-count top u (l ∷ ls) [] ns ms s nm at e h n c x = absurd x
-noted-count top u (l ∷ ls) (k ∷ ks) ns ms s nm at e h n c x =
+noted-count floor top u [] [] ns ms s nm at e h n c x = omega arith
+noted-count floor top u [] (k ∷ ks) ns ms s nm at e h n c x = absurd x
+noted-count floor top u (l ∷ ls) [] ns ms s nm at e h n c x = absurd x
+noted-count floor top u (l ∷ ls) (k ∷ ks) ns ms s nm at e h n c x =
     let f = front-entries x in
     let g = own-entries x in
     let o = at - k .value in
@@ -81,16 +81,16 @@ noted-count top u (l ∷ ls) (k ∷ ks) ns ms s nm at e h n c x =
     omega (arith, ap length p, length-append base (noteIn ms nm o (x .seg)), q, ap length (x .entriesAre), length-append base (x .seg))
 
 -- the entries are as many as the ledger counts
-pub levels-used : (top : Option Tree) (u : Bool) (ls : List Level) (ks : List Container) (ns : List Name) (s : Used) → Distinct ns → FormedLevels ls → Chained ns top ls
-    → Levels top u ls ks ns s → length (s .entries) ≡ entriesUsed ns ls
+pub levels-used : (floor : ℕ) (top : Option Tree) (u : Bool) (ls : List Level) (ks : List Container) (ns : List Name) (s : Used) → Distinct ns → FormedLevels ls → Chained ns top ls
+    → Levels floor top u ls ks ns s → length (s .entries) ≡ entriesUsed ns ls
 unfolding entriesUsed
-levels-used top u [] [] ns s d f c x = ap length (x .entriesAre)
-levels-used top u [] (k ∷ ks) ns s d f c x = absurd x
-levels-used top u (l ∷ ls) [] ns s d f c x = absurd x
-levels-used top u (l ∷ ls) (k ∷ ks) ns s d f c x =
+levels-used floor top u [] [] ns s d f c x = ap length (x .entriesAre)
+levels-used floor top u [] (k ∷ ks) ns s d f c x = absurd x
+levels-used floor top u (l ∷ ls) [] ns s d f c x = absurd x
+levels-used floor top u (l ∷ ls) (k ∷ ks) ns s d f c x =
     let st = c .0 in
-    let own = noted-count top u ls ks (l .before) (ownNames l) (x .outer) (l .own) (length (x .outer .bytes)) (with-extends (l .before) (l .own)) (with-held (l .before) (l .own)) (f .1) (c .1) (x .under) in
-    let rest = levels-used top u ls ks (l .before) (x .outer) (distinct-before (st .extends) d) (f .2) (c .1) (x .under) ∙ used-same (l .before) ns ls in
+    let own = noted-count floor top u ls ks (l .before) (ownNames l) (x .outer) (l .own) (length (x .outer .bytes)) (with-extends (l .before) (l .own)) (with-held (l .before) (l .own)) (f .1) (c .1) (x .under) in
+    let rest = levels-used floor top u ls ks (l .before) (x .outer) (distinct-before (st .extends) d) (f .2) (c .1) (x .under) ∙ used-same (l .before) ns ls in
     let all : length (s .entries) ≡ entryCount ns l + (ownIn (l .own) ls + entriesUsed ns ls) =
     omega (arith, ap length (x .entriesAre), length-append (noted l ks (x .outer)) (x .seg), layer-count (st .held) (l .object) d (st .apart) (x .layer), own, rest) in
     all ∙ sum ls
@@ -102,25 +102,25 @@ levels-used top u (l ∷ ls) (k ∷ ks) ns s d f c x =
 -- ---- the rows' tests, where the machine has these names, bytes and entries
 
 -- whether a container is open
-pub levels-open : (top : Option Tree) (u : Bool) (ls : List Level) (ks : List Container) (ns : List Name) (s : Used) → Levels top u ls ks ns s → anyOpen ks ≡ ledger.anyOpen ls
-levels-open top u [] [] ns s x = refl
-levels-open top u [] (k ∷ ks) ns s x = absurd x
-levels-open top u (l ∷ ls) [] ns s x = absurd x
-levels-open top u (l ∷ ls) (k ∷ ks) ns s x = refl
+pub levels-open : (floor : ℕ) (top : Option Tree) (u : Bool) (ls : List Level) (ks : List Container) (ns : List Name) (s : Used) → Levels floor top u ls ks ns s → anyOpen ks ≡ ledger.anyOpen ls
+levels-open floor top u [] [] ns s x = refl
+levels-open floor top u [] (k ∷ ks) ns s x = absurd x
+levels-open floor top u (l ∷ ls) [] ns s x = absurd x
+levels-open floor top u (l ∷ ls) (k ∷ ks) ns s x = refl
 
 -- whether the innermost is an object
-pub levels-object : (top : Option Tree) (u : Bool) (ls : List Level) (ks : List Container) (ns : List Name) (s : Used) → Levels top u ls ks ns s → objectInner ks ≡ ledger.objectInner ls
-levels-object top u [] [] ns s x = refl
-levels-object top u [] (k ∷ ks) ns s x = absurd x
-levels-object top u (l ∷ ls) [] ns s x = absurd x
-levels-object top u (l ∷ ls) (k ∷ ks) ns s x = x .opened .object
+pub levels-object : (floor : ℕ) (top : Option Tree) (u : Bool) (ls : List Level) (ks : List Container) (ns : List Name) (s : Used) → Levels floor top u ls ks ns s → objectInner ks ≡ ledger.objectInner ls
+levels-object floor top u [] [] ns s x = refl
+levels-object floor top u [] (k ∷ ks) ns s x = absurd x
+levels-object floor top u (l ∷ ls) [] ns s x = absurd x
+levels-object floor top u (l ∷ ls) (k ∷ ks) ns s x = x .opened .object
 
 -- how many are open
-pub levels-depth : (top : Option Tree) (u : Bool) (ls : List Level) (ks : List Container) (ns : List Name) (s : Used) → Levels top u ls ks ns s → length ks ≡ length ls
-levels-depth top u [] [] ns s x = refl
-levels-depth top u [] (k ∷ ks) ns s x = absurd x
-levels-depth top u (l ∷ ls) [] ns s x = absurd x
-levels-depth top u (l ∷ ls) (k ∷ ks) ns s x = ap (λ n. suc n) (levels-depth top u ls ks (l .before) (x .outer) (x .under))
+pub levels-depth : (floor : ℕ) (top : Option Tree) (u : Bool) (ls : List Level) (ks : List Container) (ns : List Name) (s : Used) → Levels floor top u ls ks ns s → length ks ≡ length ls
+levels-depth floor top u [] [] ns s x = refl
+levels-depth floor top u [] (k ∷ ks) ns s x = absurd x
+levels-depth floor top u (l ∷ ls) [] ns s x = absurd x
+levels-depth floor top u (l ∷ ls) (k ∷ ks) ns s x = ap (λ n. suc n) (levels-depth floor top u ls ks (l .before) (x .outer) (x .under))
 
 module _ (m : Machine) (sums : List ℕ) (marks : List Bool) where
   -- what the machine uses
@@ -128,31 +128,31 @@ module _ (m : Machine) (sums : List ℕ) (marks : List Bool) where
   usedBy = record { bytes = m .bytes; entries = m .entries; sums = sums; marks = marks }
 
   -- the uniqueness mark in force
-  pub levels-unique : (top : Option Tree) (ls : List Level) (ks : List Container) → Levels top (m .unique) ls ks (m .names) usedBy → uniqueAt m ks ≡ markNow marks
-  levels-unique top [] [] x = rw (x .marksAre)
-  levels-unique top [] (k ∷ ks) x = absurd x
-  levels-unique top (l ∷ ls) [] x = absurd x
-  levels-unique top (l ∷ ls) (k ∷ ks) x = rw (x .marksAre)
+  pub levels-unique : (floor : ℕ) (top : Option Tree) (ls : List Level) (ks : List Container) → Levels floor top (m .unique) ls ks (m .names) usedBy → uniqueAt m ks ≡ markNow marks
+  levels-unique floor top [] [] x = rw (x .marksAre)
+  levels-unique floor top [] (k ∷ ks) x = absurd x
+  levels-unique floor top (l ∷ ls) [] x = absurd x
+  levels-unique floor top (l ∷ ls) (k ∷ ks) x = rw (x .marksAre)
 
   -- whether a name is live in the innermost, where row 5 does not hold
-  pub levels-live : (top : Option Tree) (u : Bool) (ls : List Level) (ks : List Container) (nm : Option Name) → Named (innerObject ls) nm → Chained (m .names) top ls
-      → Levels top u ls ks (m .names) usedBy → liveAt m nm ks ≡ liveIn nm ls
-  levels-live top u ls ks none n c x = refl
-  levels-live top u [] [] (some y) n c x = refl
-  levels-live top u [] (k ∷ ks) (some y) n c x = absurd x
-  levels-live top u (l ∷ ls) [] (some y) n c x = absurd x
-  levels-live top u (l ∷ ls) (k ∷ ks) (some y) n c x =
+  pub levels-live : (floor : ℕ) (top : Option Tree) (u : Bool) (ls : List Level) (ks : List Container) (nm : Option Name) → Named (innerObject ls) nm → Chained (m .names) top ls
+      → Levels floor top u ls ks (m .names) usedBy → liveAt m nm ks ≡ liveIn nm ls
+  levels-live floor top u ls ks none n c x = refl
+  levels-live floor top u [] [] (some y) n c x = refl
+  levels-live floor top u [] (k ∷ ks) (some y) n c x = absurd x
+  levels-live floor top u (l ∷ ls) [] (some y) n c x = absurd x
+  levels-live floor top u (l ∷ ls) (k ∷ ks) (some y) n c x =
       let g = own-entries x in
       ap (λ (es : List Entry). ltb (place y (m .names)) (length (m .names)) && ltb (seek (place y (m .names)) es) (length es)) g ∙ go (l .object) n (x .layer)
     where
-      go : (object : Bool) → Named object (some y) → Layer (m .names) object (l .items) (x .seg) (x .body)
+      go : (object : Bool) → Named object (some y) → Layer floor (m .names) object (l .items) (x .seg) (x .body)
           → (ltb (place y (m .names)) (length (m .names)) && ltb (seek (place y (m .names)) (x .seg)) (length (x .seg))) ≡ isLive y (l .items)
       go true n l = layer-live (c .0 .held) l y
       go false n l = absurd n
 
   -- the innermost's header has the ledger's size
-  pub levels-header : (top : Option Tree) (u : Bool) (ls : List Level) (ks : List Container) → Distinct (m .names) → Chained (m .names) top ls → Levels top u ls ks (m .names) usedBy
-      → length (headerAt m ks) ≡ headerSize (m .names) ls (innerSum sums)
+  pub levels-header : (top : Option Tree) (u : Bool) (ls : List Level) (ks : List Container) → Distinct (m .names) → Chained (m .names) top ls → Levels (m .floor) top u ls ks (m .names) usedBy
+      → length (headerAt m ks) ≡ headerSize (m .floor) (m .names) ls (innerSum sums)
   unfolding headerSize
   levels-header top u [] [] d c x = refl
   levels-header top u [] (k ∷ ks) d c x = absurd x
@@ -162,16 +162,16 @@ module _ (m : Machine) (sums : List ℕ) (marks : List Bool) where
       let o = own-size x in
       let b = x .opened .object in
       let p : innerSum sums ≡ length (x .body) = ap innerSum (x .sumsAre) in
-      ap length (λ i. headerOf (m .names) (b i) (g i) (o i)) ∙ (layer-header (c .0 .held) (l .object) (length (x .body)) d (c .0 .apart) (x .layer) ∙ ap (headerSize (m .names) (l ∷ ls)) (sym p))
+      ap length (λ i. headerOf (m .floor) (m .names) (b i) (g i) (o i)) ∙ (layer-header (c .0 .held) (l .object) (length (x .body)) d (c .0 .apart) (x .layer) ∙ ap (headerSize (m .floor) (m .names) (l ∷ ls)) (sym p))
 
   -- ---- orderly
 
   -- the innermost's entries are well placed
-  pub levels-inner : (top : Option Tree) (u : Bool) (ls : List Level) (ks : List Container) → Chained (m .names) top ls → Levels top u ls ks (m .names) usedBy → InnerPlaced m ks
-  levels-inner top u [] [] c x = tt
-  levels-inner top u [] (k ∷ ks) c x = absurd x
-  levels-inner top u (l ∷ ls) [] c x = absurd x
-  levels-inner top u (l ∷ ls) (k ∷ ks) c x =
+  pub levels-inner : (floor : ℕ) (top : Option Tree) (u : Bool) (ls : List Level) (ks : List Container) → Chained (m .names) top ls → Levels floor top u ls ks (m .names) usedBy → InnerPlaced m ks
+  levels-inner floor top u [] [] c x = tt
+  levels-inner floor top u [] (k ∷ ks) c x = absurd x
+  levels-inner floor top u (l ∷ ls) [] c x = absurd x
+  levels-inner floor top u (l ∷ ls) (k ∷ ks) c x =
       (rw (own-entries x, own-size x, x .opened .object) (all-placed (l .object) (length (m .names)) (length (x .body)) (x .seg) (layer-placed (c .0 .held) (l .object) (x .layer))), rw (names-roll x) (x .opened .text))
 
 joined-append : (ns ms : List Name) → joined (ns ++ ms) ≡ joined ns ++ joined ms
@@ -180,15 +180,15 @@ joined-append [] ms = refl
 joined-append (n ∷ ns) ms = ap (λ z. n ++ z) (joined-append ns ms) ∙ sym (append-assoc n (joined ns) (joined ms))
 
 -- no starting mark falls or exceeds the used counts
-pub levels-rising : (top : Option Tree) (u : Bool) (ls : List Level) (ks : List Container) (ns : List Name) (s : Used) (value names text entries : ℕ) → length (s .bytes) ≤ value → length ns ≤ names
-    → length (joined ns) ≤ text → length (s .entries) ≤ entries → FormedLevels ls → Chained ns top ls → Levels top u ls ks ns s → Rising ks value names text entries
-levels-rising top u [] [] ns s value names text entries v n t e f c x = tt
-levels-rising top u [] (k ∷ ks) ns s value names text entries v n t e f c x = absurd x
-levels-rising top u (l ∷ ls) [] ns s value names text entries v n t e f c x = absurd x
-levels-rising top u (l ∷ ls) (k ∷ ks) ns s value names text entries v n t e f c x =
+pub levels-rising : (floor : ℕ) (top : Option Tree) (u : Bool) (ls : List Level) (ks : List Container) (ns : List Name) (s : Used) (value names text entries : ℕ) → length (s .bytes) ≤ value → length ns ≤ names
+    → length (joined ns) ≤ text → length (s .entries) ≤ entries → FormedLevels ls → Chained ns top ls → Levels floor top u ls ks ns s → Rising ks value names text entries
+levels-rising floor top u [] [] ns s value names text entries v n t e f c x = tt
+levels-rising floor top u [] (k ∷ ks) ns s value names text entries v n t e f c x = absurd x
+levels-rising floor top u (l ∷ ls) [] ns s value names text entries v n t e f c x = absurd x
+levels-rising floor top u (l ∷ ls) (k ∷ ks) ns s value names text entries v n t e f c x =
     let o = x .opened in
     let g = c .0 .extends in
-    let own = noted-count top u ls ks (l .before) (ownNames l) (x .outer) (l .own) (length (x .outer .bytes)) (with-extends (l .before) (l .own)) (with-held (l .before) (l .own)) (f .1) (c .1) (x .under) in
+    let own = noted-count floor top u ls ks (l .before) (ownNames l) (x .outer) (l .own) (length (x .outer .bytes)) (with-extends (l .before) (l .own)) (with-held (l .before) (l .own)) (f .1) (c .1) (x .under) in
     let a = ap length (x .entriesAre) ∙ length-append (noted l ks (x .outer)) (x .seg) in
     let gl = ap length (g .grown) ∙ length-append (l .before) (g .more) in
     let gt = ap (λ z. length (joined z)) (g .grown) ∙ (ap length (joined-append (l .before) (g .more)) ∙ length-append (joined (l .before)) (joined (g .more))) in (
@@ -196,21 +196,21 @@ levels-rising top u (l ∷ ls) (k ∷ ks) ns s value names text entries v n t e 
       omega (arith, o .names),
       omega (arith, o .text),
       omega (arith, o .entries),
-      levels-rising top u ls ks (l .before) (x .outer) (k .value) (k .names) (k .text) (k .entries) (omega (arith, o .value)) (omega (arith, o .names)) (omega (arith, o .text))
+      levels-rising floor top u ls ks (l .before) (x .outer) (k .value) (k .names) (k .text) (k .entries) (omega (arith, o .value)) (omega (arith, o .names)) (omega (arith, o .text))
           (omega (arith, o .entries)) (f .2) (c .1) (x .under),
     )
 
 -- the parent's entries are well placed, and the innermost's own is among them
-pub levels-parent : (top : Option Tree) (u : Bool) (ls : List Level) (m : Machine) (ks : List Container) (sums : List ℕ) (marks : List Bool) → FormedLevels ls → Chained (m .names) top ls
-    → Levels top u ls ks (m .names) (usedBy m sums marks) → ParentPlaced m ks
+pub levels-parent : (floor : ℕ) (top : Option Tree) (u : Bool) (ls : List Level) (m : Machine) (ks : List Container) (sums : List ℕ) (marks : List Bool) → FormedLevels ls → Chained (m .names) top ls
+    → Levels floor top u ls ks (m .names) (usedBy m sums marks) → ParentPlaced m ks
 unfolding note linkOf
-levels-parent top u [] m [] sums marks f c x = tt
-levels-parent top u [] m (k ∷ ks) sums marks f c x = absurd x
-levels-parent top u (l ∷ ls) m [] sums marks f c x = absurd x
-levels-parent top u (l ∷ []) m (k ∷ []) sums marks f c x = tt
-levels-parent top u (l ∷ []) m (k ∷ (p ∷ ks)) sums marks f c x = absurd (x .under)
-levels-parent top u (l ∷ (q ∷ ls)) m (k ∷ []) sums marks f c x = absurd (x .under)
-levels-parent top u (l ∷ (q ∷ ls)) m (k ∷ (p ∷ ks)) sums marks f c x =
+levels-parent floor top u [] m [] sums marks f c x = tt
+levels-parent floor top u [] m (k ∷ ks) sums marks f c x = absurd x
+levels-parent floor top u (l ∷ ls) m [] sums marks f c x = absurd x
+levels-parent floor top u (l ∷ []) m (k ∷ []) sums marks f c x = tt
+levels-parent floor top u (l ∷ []) m (k ∷ (p ∷ ks)) sums marks f c x = absurd (x .under)
+levels-parent floor top u (l ∷ (q ∷ ls)) m (k ∷ []) sums marks f c x = absurd (x .under)
+levels-parent floor top u (l ∷ (q ∷ ls)) m (k ∷ (p ∷ ks)) sums marks f c x =
     let ms = ownNames l in
     let y = x .under in
     let base = noted q ks (y .outer) in

@@ -48,7 +48,7 @@ pub record Opened (l : Level) (k : Container) (ks : List Container) (s : Used) :
   pub parent : k .parent ≡ linkOf (ownNames l) ks (l .own) (s .entries)
 
 -- the innermost container, Under telling of those outside of it
-pub record Nested (top : Option Tree) (l : Level) (k : Container) (ks : List Container) (ns : List Name) (s : Used) (Under : List Name → Used → Type 0) : Type 0 where
+pub record Nested (floor : ℕ) (top : Option Tree) (l : Level) (k : Container) (ks : List Container) (ns : List Name) (s : Used) (Under : List Name → Used → Type 0) : Type 0 where
   pub outer : Used
   pub body : List ℕ
   pub seg : List Entry
@@ -59,31 +59,31 @@ pub record Nested (top : Option Tree) (l : Level) (k : Container) (ks : List Con
   pub opened : Opened l k ks outer
   pub topless : top ≡ none
   pub grows : Extends (ownNames l) ns
-  pub layer : Layer ns (l .object) (l .items) seg body
+  pub layer : Layer floor ns (l .object) (l .items) seg body
   pub under : Under (l .before) outer
 
 -- where none is open, the bytes are those of the top value
-abbrev pub Topped : Option Tree → List Name → List ℕ → Type 0
-Topped none ns bs = bs ≡ []
-Topped (some t) ns bs = bs ≡ encode ns t
+abbrev pub Topped : ℕ → Option Tree → List Name → List ℕ → Type 0
+Topped floor none ns bs = bs ≡ []
+Topped floor (some t) ns bs = bs ≡ encode floor ns t
 
 -- no container is open
-pub record Ground (top : Option Tree) (unique : Bool) (ns : List Name) (s : Used) : Type 0 where
-  pub value : Topped top ns (s .bytes)
+pub record Ground (floor : ℕ) (top : Option Tree) (unique : Bool) (ns : List Name) (s : Used) : Type 0 where
+  pub value : Topped floor top ns (s .bytes)
   pub entriesAre : s .entries ≡ []
   pub sumsAre : s .sums ≡ length (s .bytes) ∷ []
   pub marksAre : s .marks ≡ unique ∷ []
 
 -- the containers of the machine and those of the history, level by level
-abbrev pub Levels : Option Tree → Bool → List Level → List Container → List Name → Used → Type 0
-Levels top u [] [] ns s = Ground top u ns s
-Levels top u [] (k ∷ ks) ns s = ⊥
-Levels top u (l ∷ ls) [] ns s = ⊥
-Levels top u (l ∷ ls) (k ∷ ks) ns s = Nested top l k ks ns s (λ n z. Levels top u ls ks n z)
+abbrev pub Levels : ℕ → Option Tree → Bool → List Level → List Container → List Name → Used → Type 0
+Levels floor top u [] [] ns s = Ground floor top u ns s
+Levels floor top u [] (k ∷ ks) ns s = ⊥
+Levels floor top u (l ∷ ls) [] ns s = ⊥
+Levels floor top u (l ∷ ls) (k ∷ ks) ns s = Nested floor top l k ks ns s (λ n z. Levels floor top u ls ks n z)
 
 -- ---- the innermost's own part
 
-module _ {top : Option Tree} {l : Level} {k : Container} {ks : List Container} {ns : List Name} {s : Used} {Under : List Name → Used → Type 0} (x : Nested top l k ks ns s Under) where
+module _ {floor : ℕ} {top : Option Tree} {l : Level} {k : Container} {ks : List Container} {ns : List Name} {s : Used} {Under : List Name → Used → Type 0} (x : Nested floor top l k ks ns s Under) where
   pub front-entries : take (k .entries) (s .entries) ≡ noted l ks (x .outer)
   front-entries = ap (take (k .entries)) (x .entriesAre) ∙ take-at (noted l ks (x .outer)) (x .seg) (k .entries) (sym (x .opened .entries))
 
@@ -101,17 +101,17 @@ module _ {top : Option Tree} {l : Level} {k : Container} {ks : List Container} {
 
 -- ---- names that come later
 
-topped-grows : {ns ms : List Name} (top : Option Tree) (bs : List ℕ) → Extends ns ms → HeldTop ns top → Topped top ns bs → Topped top ms bs
-topped-grows none bs e h v = v
-topped-grows {ns} (some t) bs e h v = v ∙ sym (ap (λ z. encode z t) (e .grown) ∙ encode-grows ns (e .more) t h)
+topped-grows : (floor : ℕ) {ns ms : List Name} (top : Option Tree) (bs : List ℕ) → Extends ns ms → HeldTop ns top → Topped floor top ns bs → Topped floor top ms bs
+topped-grows floor none bs e h v = v
+topped-grows floor {ns} (some t) bs e h v = v ∙ sym (ap (λ z. encode floor z t) (e .grown) ∙ encode-grows floor ns (e .more) t h)
 
 -- the levels at more names
-pub levels-grow : {ns ms : List Name} (top : Option Tree) (u : Bool) (ls : List Level) (ks : List Container) (s : Used) → Extends ns ms → Chained ns top ls
-    → Levels top u ls ks ns s → Levels top u ls ks ms s
-levels-grow top u [] [] s e h x = record { value = topped-grows top (s .bytes) e h (x .value); entriesAre = x .entriesAre; sumsAre = x .sumsAre; marksAre = x .marksAre }
-levels-grow top u [] (k ∷ ks) s e h x = absurd x
-levels-grow top u (l ∷ ls) [] s e h x = absurd x
-levels-grow top u (l ∷ ls) (k ∷ ks) s e h x =
+pub levels-grow : (floor : ℕ) {ns ms : List Name} (top : Option Tree) (u : Bool) (ls : List Level) (ks : List Container) (s : Used) → Extends ns ms → Chained ns top ls
+    → Levels floor top u ls ks ns s → Levels floor top u ls ks ms s
+levels-grow floor top u [] [] s e h x = record { value = topped-grows floor top (s .bytes) e h (x .value); entriesAre = x .entriesAre; sumsAre = x .sumsAre; marksAre = x .marksAre }
+levels-grow floor top u [] (k ∷ ks) s e h x = absurd x
+levels-grow floor top u (l ∷ ls) [] s e h x = absurd x
+levels-grow floor top u (l ∷ ls) (k ∷ ks) s e h x =
     record {
       outer = x .outer;
       body = x .body;
@@ -130,50 +130,50 @@ levels-grow top u (l ∷ ls) (k ∷ ks) s e h x =
 -- ---- a value enters
 
 -- what is used once a tree has entered
-abbrev pub usedWith : List Name → List Container → Option Name → Tree → Used → Used
-usedWith ns ks nm t s =
+abbrev pub usedWith : ℕ → List Name → List Container → Option Name → Tree → Used → Used
+usedWith floor ns ks nm t s =
     record {
-      bytes = s .bytes ++ encode ns t;
+      bytes = s .bytes ++ encode floor ns t;
       entries = note ns ks nm (length (s .bytes)) (s .entries);
-      sums = addTo (length (encode ns t)) (s .sums);
+      sums = addTo (length (encode floor ns t)) (s .sums);
       marks = s .marks;
     }
 
-ground-empty : (top : Option Tree) (ns : List Name) (bs : List ℕ) → top ≡ none → Topped top ns bs → bs ≡ []
-ground-empty none ns bs e v = v
-ground-empty (some t) ns bs e v = absurd (let z : _≡_ {A = ℕ} 0 1 = cc in omega arith)
+ground-empty : (floor : ℕ) (top : Option Tree) (ns : List Name) (bs : List ℕ) → top ≡ none → Topped floor top ns bs → bs ≡ []
+ground-empty floor none ns bs e v = v
+ground-empty floor (some t) ns bs e v = absurd (let z : _≡_ {A = ℕ} 0 1 = cc in omega arith)
 
 -- A VALUE ENTERS the innermost container, or is the top value.
-pub levels-enter : (top : Option Tree) (u : Bool) (ls : List Level) (ks : List Container) (ns : List Name) (s : Used) (nm : Option Name) (t : Tree) → top ≡ none → Chained ns top ls
-    → Named (innerObject ls) nm → HeldName ns nm → Levels top u ls ks ns s
-    → Levels (enter ns top ls nm t .top) u (enter ns top ls nm t .levels) ks ns (usedWith ns ks nm t s)
+pub levels-enter : (floor : ℕ) (top : Option Tree) (u : Bool) (ls : List Level) (ks : List Container) (ns : List Name) (s : Used) (nm : Option Name) (t : Tree) → top ≡ none → Chained ns top ls
+    → Named (innerObject ls) nm → HeldName ns nm → Levels floor top u ls ks ns s
+    → Levels floor (enter ns top ls nm t .top) u (enter ns top ls nm t .levels) ks ns (usedWith floor ns ks nm t s)
 unfolding enter note addTo
-levels-enter top u [] [] ns s nm t e h n k x =
-    let b : s .bytes ≡ [] = ground-empty top ns (s .bytes) e (x .value) in
+levels-enter floor top u [] [] ns s nm t e h n k x =
+    let b : s .bytes ≡ [] = ground-empty floor top ns (s .bytes) e (x .value) in
     record {
-      value = ap (λ z. z ++ encode ns t) b;
+      value = ap (λ z. z ++ encode floor ns t) b;
       entriesAre = x .entriesAre;
-      sumsAre = ap (addTo (length (encode ns t))) (x .sumsAre) ∙ ap (λ z. z ∷ []) (omega (arith, length-append (s .bytes) (encode ns t)));
+      sumsAre = ap (addTo (length (encode floor ns t))) (x .sumsAre) ∙ ap (λ z. z ∷ []) (omega (arith, length-append (s .bytes) (encode floor ns t)));
       marksAre = x .marksAre;
     }
-levels-enter top u [] (c ∷ ks) ns s nm t e h n k x = absurd x
-levels-enter top u (l ∷ ls) [] ns s nm t e h n k x = absurd x
-levels-enter top u (l ∷ ls) (c ∷ ks) ns s nm t e h n k x =
+levels-enter floor top u [] (c ∷ ks) ns s nm t e h n k x = absurd x
+levels-enter floor top u (l ∷ ls) [] ns s nm t e h n k x = absurd x
+levels-enter floor top u (l ∷ ls) (c ∷ ks) ns s nm t e h n k x =
     let o = own-size x in
     let f = front-entries x in
     let g = own-entries x in
     record {
       outer = x .outer;
-      body = x .body ++ encode ns t;
+      body = x .body ++ encode floor ns t;
       seg = noteIn ns nm (length (x .body)) (x .seg);
-      bytesAre = ap (λ z. z ++ encode ns t) (x .bytesAre) ∙ append-assoc (x .outer .bytes) (x .body) (encode ns t);
+      bytesAre = ap (λ z. z ++ encode floor ns t) (x .bytesAre) ∙ append-assoc (x .outer .bytes) (x .body) (encode floor ns t);
       entriesAre = λ i. f i ++ noteIn ns nm (o i) (g i);
-      sumsAre = ap (addTo (length (encode ns t))) (x .sumsAre) ∙ ap (λ z. z ∷ x .outer .sums) (omega (arith, length-append (x .body) (encode ns t)));
+      sumsAre = ap (addTo (length (encode floor ns t))) (x .sumsAre) ∙ ap (λ z. z ∷ x .outer .sums) (omega (arith, length-append (x .body) (encode floor ns t)));
       marksAre = x .marksAre;
       opened = record { value = x .opened .value; names = x .opened .names; text = x .opened .text; entries = x .opened .entries; object = x .opened .object; parent = x .opened .parent };
       topless = x .topless;
       grows = x .grows;
-      layer = layer-enter ns (l .object) (l .items) (x .seg) (x .body) nm t (h .0 .held) n k (x .layer);
+      layer = layer-enter floor ns (l .object) (l .items) (x .seg) (x .body) nm t (h .0 .held) n k (x .layer);
       under = x .under;
     }
 
@@ -186,42 +186,42 @@ note-grows (k ∷ ks) none at es e h = refl
 note-grows {ns} (k ∷ ks) (some n) at es e h = rw (e .grown, place-held n ns (e .more) h)
 
 -- THE CLOSE: the innermost's tree enters the containers outside of it.
-pub levels-close : (top : Option Tree) (u : Bool) (l : Level) (ls : List Level) (k : Container) (ks : List Container) (ns : List Name) (s : Used) → Distinct ns → Chained ns top (l ∷ ls)
-    → Named (innerObject ls) (l .own) → Levels top u (l ∷ ls) (k ∷ ks) ns s
-    → Levels (closeLevel ns top (l ∷ ls) .top) u (closeLevel ns top (l ∷ ls) .levels) ks ns (record {
-      bytes = take (k .value) (s .bytes) ++ (headerOf ns (k .object) (drop (k .entries) (s .entries)) (length (drop (k .value) (s .bytes))) ++ drop (k .value) (s .bytes));
+pub levels-close : (floor : ℕ) (top : Option Tree) (u : Bool) (l : Level) (ls : List Level) (k : Container) (ks : List Container) (ns : List Name) (s : Used) → Distinct ns → Chained ns top (l ∷ ls)
+    → Named (innerObject ls) (l .own) → Levels floor top u (l ∷ ls) (k ∷ ks) ns s
+    → Levels floor (closeLevel ns top (l ∷ ls) .top) u (closeLevel ns top (l ∷ ls) .levels) ks ns (record {
+      bytes = take (k .value) (s .bytes) ++ (headerOf floor ns (k .object) (drop (k .entries) (s .entries)) (length (drop (k .value) (s .bytes))) ++ drop (k .value) (s .bytes));
       entries = take (k .entries) (s .entries);
-      sums = addTo (innerSum (s .sums) + headerSize ns (l ∷ ls) (innerSum (s .sums))) (outerSums (s .sums));
+      sums = addTo (innerSum (s .sums) + headerSize floor ns (l ∷ ls) (innerSum (s .sums))) (outerSums (s .sums));
       marks = marksAfter (s .marks) close false;
     })
 unfolding closeLevel headerSize marksAfter
-levels-close top u l ls k ks ns s d h n x =
+levels-close floor top u l ls k ks ns s d h n x =
     let t = nest (l .object) (l .items) in
     let st = h .0 in
     let bt = front-bytes x in
     let bd = own-bytes x in
     let ed = own-entries x in
     let ob = x .opened .object in
-    let c : headerOf ns (l .object) (x .seg) (length (x .body)) ++ x .body ≡ encode ns t = layer-close (st .held) (l .object) d (st .apart) (x .layer) in
-    let b : take (k .value) (s .bytes) ++ (headerOf ns (k .object) (drop (k .entries) (s .entries)) (length (drop (k .value) (s .bytes))) ++ drop (k .value) (s .bytes)) ≡ x .outer .bytes ++ encode ns t =
-    (λ i. bt i ++ (headerOf ns (ob i) (ed i) (length (bd i)) ++ bd i)) ∙ ap (λ z. x .outer .bytes ++ z) c in
+    let c : headerOf floor ns (l .object) (x .seg) (length (x .body)) ++ x .body ≡ encode floor ns t = layer-close (st .held) (l .object) d (st .apart) (x .layer) in
+    let b : take (k .value) (s .bytes) ++ (headerOf floor ns (k .object) (drop (k .entries) (s .entries)) (length (drop (k .value) (s .bytes))) ++ drop (k .value) (s .bytes)) ≡ x .outer .bytes ++ encode floor ns t =
+    (λ i. bt i ++ (headerOf floor ns (ob i) (ed i) (length (bd i)) ++ bd i)) ∙ ap (λ z. x .outer .bytes ++ z) c in
     let own : HeldName (ownNames l) (l .own) = with-held (l .before) (l .own) in
     let e : take (k .entries) (s .entries) ≡ note ns ks (l .own) (length (x .outer .bytes)) (x .outer .entries) =
     front-entries x ∙ sym (note-grows ks (l .own) (length (x .outer .bytes)) (x .outer .entries) (x .grows) own) in
-    let size : length (x .body) + headerSize ns (l ∷ ls) (length (x .body)) ≡ length (encode ns t) =
-    omega (arith, ap length c, length-append (headerOf ns (l .object) (x .seg) (length (x .body))) (x .body), layer-header (st .held) (l .object) (length (x .body)) d (st .apart) (x .layer)) in
-    let v : addTo (innerSum (s .sums) + headerSize ns (l ∷ ls) (innerSum (s .sums))) (outerSums (s .sums)) ≡ addTo (length (encode ns t)) (x .outer .sums) =
-    ap (λ z. addTo (innerSum z + headerSize ns (l ∷ ls) (innerSum z)) (outerSums z)) (x .sumsAre) ∙ ap (λ z. addTo z (x .outer .sums)) size in
+    let size : length (x .body) + headerSize floor ns (l ∷ ls) (length (x .body)) ≡ length (encode floor ns t) =
+    omega (arith, ap length c, length-append (headerOf floor ns (l .object) (x .seg) (length (x .body))) (x .body), layer-header (st .held) (l .object) (length (x .body)) d (st .apart) (x .layer)) in
+    let v : addTo (innerSum (s .sums) + headerSize floor ns (l ∷ ls) (innerSum (s .sums))) (outerSums (s .sums)) ≡ addTo (length (encode floor ns t)) (x .outer .sums) =
+    ap (λ z. addTo (innerSum z + headerSize floor ns (l ∷ ls) (innerSum z)) (outerSums z)) (x .sumsAre) ∙ ap (λ z. addTo z (x .outer .sums)) size in
     let m : marksAfter (s .marks) close false ≡ x .outer .marks = ap (λ z. marksAfter z close false) (x .marksAre) in
-    let under : Levels top u ls ks ns (x .outer) = levels-grow top u ls ks (x .outer) (st .extends) (h .1) (x .under) in
-    let p : usedWith ns ks (l .own) t (x .outer) ≡ record {
-      bytes = take (k .value) (s .bytes) ++ (headerOf ns (k .object) (drop (k .entries) (s .entries)) (length (drop (k .value) (s .bytes))) ++ drop (k .value) (s .bytes));
+    let under : Levels floor top u ls ks ns (x .outer) = levels-grow floor top u ls ks (x .outer) (st .extends) (h .1) (x .under) in
+    let p : usedWith floor ns ks (l .own) t (x .outer) ≡ record {
+      bytes = take (k .value) (s .bytes) ++ (headerOf floor ns (k .object) (drop (k .entries) (s .entries)) (length (drop (k .value) (s .bytes))) ++ drop (k .value) (s .bytes));
       entries = take (k .entries) (s .entries);
-      sums = addTo (innerSum (s .sums) + headerSize ns (l ∷ ls) (innerSum (s .sums))) (outerSums (s .sums));
+      sums = addTo (innerSum (s .sums) + headerSize floor ns (l ∷ ls) (innerSum (s .sums))) (outerSums (s .sums));
       marks = marksAfter (s .marks) close false;
     } = λ i. record { bytes = sym b i; entries = sym e i; sums = sym v i; marks = sym m i } in
-    subst (λ (z : Used). Levels (enter ns top ls (l .own) t .top) u (enter ns top ls (l .own) t .levels) ks ns z) p
-    (levels-enter top u ls ks ns (x .outer) (l .own) t (x .topless) (chained-grows top ls (st .extends) (h .1)) n (st .ownHeld) under)
+    subst (λ (z : Used). Levels floor (enter ns top ls (l .own) t .top) u (enter ns top ls (l .own) t .levels) ks ns z) p
+    (levels-enter floor top u ls ks ns (x .outer) (l .own) t (x .topless) (chained-grows top ls (st .extends) (h .1)) n (st .ownHeld) under)
 
 -- ---- roll back
 
@@ -231,13 +231,13 @@ undo-is k ks New es = refl
 undo-is k ks (Replaced i o) es = refl
 
 -- the entries without a container's own are those before its open
-levels-undo : (top : Option Tree) (u : Bool) (ls : List Level) (ks : List Container) (ns ms : List Name) (s : Used) (nm : Option Name) (at : ℕ) → Levels top u ls ks ns s
+levels-undo : (floor : ℕ) (top : Option Tree) (u : Bool) (ls : List Level) (ks : List Container) (ns ms : List Name) (s : Used) (nm : Option Name) (at : ℕ) → Levels floor top u ls ks ns s
     → undo ks (linkOf ms ks nm (s .entries)) (note ms ks nm at (s .entries)) ≡ s .entries
 unfolding note linkOf undo
-levels-undo top u [] [] ns ms s nm at x = refl
-levels-undo top u [] (k ∷ ks) ns ms s nm at x = absurd x
-levels-undo top u (l ∷ ls) [] ns ms s nm at x = absurd x
-levels-undo top u (l ∷ ls) (k ∷ ks) ns ms s nm at x =
+levels-undo floor top u [] [] ns ms s nm at x = refl
+levels-undo floor top u [] (k ∷ ks) ns ms s nm at x = absurd x
+levels-undo floor top u (l ∷ ls) [] ns ms s nm at x = absurd x
+levels-undo floor top u (l ∷ ls) (k ∷ ks) ns ms s nm at x =
     let f = front-entries x in
     let g = own-entries x in
     undo-is k ks (linkIn ms nm (drop (k .entries) (s .entries))) (take (k .entries) (s .entries) ++ noteIn ms nm (at - k .value) (drop (k .entries) (s .entries)))
@@ -245,27 +245,27 @@ levels-undo top u (l ∷ ls) (k ∷ ks) ns ms s nm at x =
     ∙ (undo-note ms nm (at - k .value) (noted l ks (x .outer)) (x .seg) ∙ sym (x .entriesAre)))
 
 -- THE ROLL BACK: all is as before the open.
-pub levels-roll : (top : Option Tree) (u : Bool) (l : Level) (ls : List Level) (k : Container) (ks : List Container) (ns : List Name) (s : Used) → Levels top u (l ∷ ls) (k ∷ ks) ns s
-    → Levels top u ls ks (l .before) (record {
+pub levels-roll : (floor : ℕ) (top : Option Tree) (u : Bool) (l : Level) (ls : List Level) (k : Container) (ks : List Container) (ns : List Name) (s : Used) → Levels floor top u (l ∷ ls) (k ∷ ks) ns s
+    → Levels floor top u ls ks (l .before) (record {
       bytes = take (k .value) (s .bytes);
       entries = undo ks (k .parent) (take (k .entries) (s .entries));
       sums = outerSums (s .sums);
       marks = marksAfter (s .marks) rollBack false;
     })
 unfolding marksAfter
-levels-roll top u l ls k ks ns s x =
+levels-roll floor top u l ls k ks ns s x =
     let b = front-bytes x in
     let f = front-entries x in
     let e : undo ks (k .parent) (take (k .entries) (s .entries)) ≡ x .outer .entries =
-    (λ i. undo ks (x .opened .parent i) (f i)) ∙ levels-undo top u ls ks (l .before) (ownNames l) (x .outer) (l .own) (length (x .outer .bytes)) (x .under) in
+    (λ i. undo ks (x .opened .parent i) (f i)) ∙ levels-undo floor top u ls ks (l .before) (ownNames l) (x .outer) (l .own) (length (x .outer .bytes)) (x .under) in
     let v : outerSums (s .sums) ≡ x .outer .sums = ap outerSums (x .sumsAre) in
     let m : marksAfter (s .marks) rollBack false ≡ x .outer .marks = ap (λ z. marksAfter z rollBack false) (x .marksAre) in
     let p : x .outer ≡ record { bytes = take (k .value) (s .bytes); entries = undo ks (k .parent) (take (k .entries) (s .entries)); sums = outerSums (s .sums); marks = marksAfter (s .marks) rollBack false } =
     λ i. record { bytes = sym b i; entries = sym e i; sums = sym v i; marks = sym m i } in
-    subst (λ (z : Used). Levels top u ls ks (l .before) z) p (x .under)
+    subst (λ (z : Used). Levels floor top u ls ks (l .before) z) p (x .under)
 
 -- the names are cut back to those before the open
-pub names-roll : {top : Option Tree} {l : Level} {k : Container} {ks : List Container} {ns : List Name} {s : Used} {Under : List Name → Used → Type 0} → Nested top l k ks ns s Under
+pub names-roll : {floor : ℕ} {top : Option Tree} {l : Level} {k : Container} {ks : List Container} {ns : List Name} {s : Used} {Under : List Name → Used → Type 0} → Nested floor top l k ks ns s Under
     → take (k .names) ns ≡ l .before
 names-roll {l} {k} {ns} x =
     let e = extends-more (with-extends (l .before) (l .own)) (x .grows) in

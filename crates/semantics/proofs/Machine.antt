@@ -19,15 +19,15 @@ use Rattle.metadata.proofs.DictionaryLaws.{Distinct}
 use Rattle.semantics.specs.declared.Container.{Container}
 use Rattle.semantics.specs.declared.ParentEntry.{ParentEntry}
 use Rattle.semantics.specs.declared.ParentEntry.the-variants.{New, Replaced}
-use Rattle.semantics.specs.Record.{Call, register, append, openIn, close, rollBack, uniqueness, finish, scalarOf}
+use Rattle.semantics.specs.Record.{Call, register, append, openIn, close, rollBack, uniqueness, finish, scalarOf, goodFloor}
 use Rattle.semantics.specs.Damage.{orphaned}
 use Rattle.semantics.specs.Table.{scalarRows, badName}
 use Rattle.semantics.specs.Step.{withUnique}
 use Rattle.semantics.specs.History.{withName}
 use Rattle.semantics.specs.Ledger.{Lent, fullFor}
 
--- the used value bytes, the names held, the used entries, the open containers (the innermost first), the uniqueness mark, and whether it is
--- finished
+-- the used value bytes, the names held, the used entries, the open containers (the innermost first), the uniqueness mark, whether it is
+-- finished, and the floor
 pub record Machine : Type 0 where
   pub bytes : List ℕ
   pub names : List Name
@@ -35,6 +35,7 @@ pub record Machine : Type 0 where
   pub conts : List Container
   pub unique : Bool
   pub finished : Bool
+  pub floor : ℕ
 
 -- ---- entries
 
@@ -72,16 +73,16 @@ undo (k ∷ ks) New es = take (length es - 1) es
 undo (k ∷ ks) (Replaced i o) es = take (k .entries) es ++ put i o (drop (k .entries) es)
 
 -- the header of a container with these entries and so much data
-unfoldable pub headerOf : List Name → Bool → List Entry → ℕ → List ℕ
-headerOf ns object es size =
+unfoldable pub headerOf : ℕ → List Name → Bool → List Entry → ℕ → List ℕ
+headerOf floor ns object es size =
     let sorted = sort ns es in
-    cond object (objectHeader (idsOf sorted) (offsetsOf sorted) size) (listHeader (offsetsOf es) size)
+    cond object (objectHeader floor (idsOf sorted) (offsetsOf sorted) size) (listHeader floor (offsetsOf es) size)
 
 -- ---- what a call that is carried out does
 
 abbrev pub with : Machine → List ℕ → List Name → List Entry → List Container → Machine
 with m bs ns es ks =
-    record { bytes = bs; names = ns; entries = es; conts = ks; unique = m .unique; finished = m .finished }
+    record { bytes = bs; names = ns; entries = es; conts = ks; unique = m .unique; finished = m .finished; floor = m .floor }
 
 abbrev pub uniqueAt : Machine → List Container → Bool
 uniqueAt m [] = m .unique
@@ -91,7 +92,7 @@ abbrev pub closeAt : Machine → List Container → Machine
 closeAt m [] = m
 closeAt m (k ∷ ks) =
     let body = drop (k .value) (m .bytes) in
-    with m (take (k .value) (m .bytes) ++ (headerOf (m .names) (k .object) (drop (k .entries) (m .entries)) (length body) ++ body)) (m .names)
+    with m (take (k .value) (m .bytes) ++ (headerOf (m .floor) (m .names) (k .object) (drop (k .entries) (m .entries)) (length body) ++ body)) (m .names)
     (take (k .entries) (m .entries)) ks
 
 abbrev pub rollAt : Machine → List Container → Machine
@@ -124,7 +125,7 @@ apply m close = closeAt m (m .conts)
 apply m rollBack = rollAt m (m .conts)
 apply m (uniqueness u) = with m (m .bytes) (m .names) (m .entries) (markAt u (m .conts))
 apply m (finish out) =
-    record { bytes = m .bytes; names = m .names; entries = m .entries; conts = m .conts; unique = m .unique; finished = true }
+    record { bytes = m .bytes; names = m .names; entries = m .entries; conts = m .conts; unique = m .unique; finished = true; floor = m .floor }
 
 -- ---- rows 2 to 16 of the table
 
@@ -156,7 +157,7 @@ tooLong m lent n = not (fits (length (m .bytes)) n (lent .value))
 
 abbrev pub headerAt : Machine → List Container → List ℕ
 headerAt m [] = []
-headerAt m (k ∷ ks) = headerOf (m .names) (k .object) (drop (k .entries) (m .entries)) (length (m .bytes) - k .value)
+headerAt m (k ∷ ks) = headerOf (m .floor) (m .names) (k .object) (drop (k .entries) (m .entries)) (length (m .bytes) - k .value)
 
 -- append's, before and behind the scalar's own
 abbrev pub frontAt : Machine → Option Name → List Row
@@ -189,7 +190,7 @@ rowsAt m lent (finish out) =
     row 2 (m .finished)
     ∷ (row 4 (anyOpen (m .conts))
     ∷ (row 15 (eqb (length (m .bytes)) 0)
-    ∷ (row 16 (not (leb (sizeOf (length (m .names)) (length (joined (m .names)))) (counted (length out)))) ∷ [])))
+    ∷ (row 16 (not (leb (sizeOf (m .floor) (length (m .names)) (length (joined (m .names)))) (counted (length out)))) ∷ [])))
 
 unfoldable pub numberAt : Machine → Lent → Call → ℕ
 numberAt m lent c = first (rowsAt m lent c)
@@ -223,3 +224,4 @@ pub record Orderly (m : Machine) : Type 0 where
   pub inner : InnerPlaced m (m .conts)
   pub parent : ParentPlaced m (m .conts)
   pub distinct : Distinct (m .names)
+  pub floor : goodFloor (m .floor) ≡ true

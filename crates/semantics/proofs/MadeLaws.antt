@@ -7,7 +7,7 @@ use Prim.Native.Nat.{ℕ}
 use Rattle.metadata.specs.Bytes.{dictionaryNames}
 use Rattle.semantics.specs.Record.{State, Call}
 use Rattle.semantics.specs.Tree.{Tree, encode}
-use Rattle.semantics.specs.Run.{FinishedRun, run, valueBytes, dictionaryBytes, runNames, kept, keptDictionary, Made, noCall, aCall, aFinish, FinishedCalls}
+use Rattle.semantics.specs.Run.{FinishedRun, floorOf, run, valueBytes, dictionaryBytes, runNames, kept, keptDictionary, Made, noCall, aCall, aFinish, FinishedCalls}
 use Rattle.semantics.proofs.Demand2 as two
 use Rattle.semantics.proofs.Demand3 as three
 
@@ -29,7 +29,7 @@ module _ {s u : State} {cs : List Call} {d : List ℕ} (r : FinishedCalls s cs u
   pub made-finished : FinishedRun s cs
   made-finished = record { fresh = r .fresh; finished = ap (λ (t : State). t .builder .counts .finished) (sym (made-run (r .made))) ∙ r .finished }
 
-  pub made-value : (t : Tree) × (kept s cs .top ≡ some t) × (valueBytes u ≡ encode (kept s cs .names) t)
+  pub made-value : (t : Tree) × (kept s cs .top ≡ some t) × (valueBytes u ≡ encode (floorOf s) (kept s cs .names) t)
   made-value = rw (made-run (r .made)) (two.value s cs made-finished)
 
   made-names : dictionaryNames d ≡ runNames s cs
@@ -39,7 +39,7 @@ module _ {s u : State} {cs : List Call} {d : List ℕ} (r : FinishedCalls s cs u
   pub made-written : (d ≡ keptDictionary s cs) × (dictionaryNames d ≡ kept s cs .names)
   made-written = let w = two.written s cs made-finished in (made-dictionary (r .made) ∙ w .dictionary, made-names ∙ w .names)
 
-pub made-faithful : {s t u v : State} {cs ds : List Call} {d e : List ℕ} → FinishedCalls s cs u d → FinishedCalls t ds v e
+pub made-faithful : {s t u v : State} {cs ds : List Call} {d e : List ℕ} → FinishedCalls s cs u d → FinishedCalls t ds v e → floorOf s ≡ floorOf t
     → ((valueBytes u ≡ valueBytes v) × (d ≡ e)) ↔ (kept s cs ≡ kept t ds)
-made-faithful {s} {t} {u} {v} {cs} {ds} r q =
-    rw (made-run (r .made), made-run (q .made), made-dictionary (r .made), made-dictionary (q .made)) (three.demand3 s t cs ds (made-finished r) (made-finished q))
+made-faithful {s} {t} {u} {v} {cs} {ds} r q f =
+    rw (made-run (r .made), made-run (q .made), made-dictionary (r .made), made-dictionary (q .made)) (three.demand3 s t cs ds (made-finished r) (made-finished q) f)

@@ -31,14 +31,14 @@ use Rattle.semantics.specs.declared.Counts.{Counts}
 use Rattle.semantics.specs.declared.ParentEntry.{ParentEntry}
 use Rattle.semantics.specs.declared.ParentEntry.the-variants.{New, Replaced}
 use Rattle.semantics.specs.declared.View.{View}
-use Rattle.semantics.specs.Record.{Storage, State, Scalars, Call, register, append, openIn, close, rollBack, uniqueness, finish, scalarOf, viewOf, isOpen, inObject, innerSize, innerEntries, parentEntries, namesHeld, uniqueNow}
-use Rattle.semantics.specs.Damage.{overUsed, unchained, fallenEnds, misplacedInner, misplacedParent, orphaned, damagedParent, misreadBy, misread, damaged}
+use Rattle.semantics.specs.Record.{Storage, State, Scalars, Call, register, append, openIn, close, rollBack, uniqueness, finish, scalarOf, goodFloor, viewOf, isOpen, inObject, innerSize, innerEntries, parentEntries, namesHeld, uniqueNow}
+use Rattle.semantics.specs.Damage.{overUsed, unchained, badFloor, fallenEnds, misplacedInner, misplacedParent, orphaned, damagedParent, misreadBy, misread, damaged}
 use Rattle.semantics.specs.Table.{scalarRows, rows, numberOf, misnamed, badName, idOf, held, live, liveUnder, namesFull, entriesFull, tooLong as tooLongFor, header}
 use Rattle.semantics.specs.Step.{dictionaryWith, textWith, endsWith, idFor, entriesWith, countWith, parentWith, registered, appended, opened, newContainer, entriesClosed, closed, entriesBack, countBack, rolledBack, finished, dictionaryOf, after}
 use Rattle.semantics.specs.Step as step
 use Rattle.semantics.specs.History.{withName}
 use Rattle.semantics.specs.Ledger.{fullFor}
-use Rattle.semantics.specs.Run.{Fresh, lentBy, valueBytes}
+use Rattle.semantics.specs.Run.{Fresh, floorOf, lentBy, valueBytes}
 use Rattle.semantics.proofs.Demand1.{none-at, append-at}
 use Rattle.semantics.proofs.Machine.{Machine, put, find, note, noteIn, linkOf, linkIn, undo, headerOf, closeAt, rollAt, markAt, apply, uniqueAt, anyOpen, objectInner, misnamedAt, liveAt, noEntryFree, tooLong, headerAt, numberAt, Rising, InnerPlaced, ParentPlaced, Orderly}
 use Rattle.semantics.proofs.StorageLaws.{not-ltb, take-write, drop-write, seek-high, put-new, find-new, find-there, Used, used-count, used-from, used-between, used-cut, used-moved, used-added, used-kept, stackOf, topOf, nextOf, length-stack, stack-top, stack-next, stack-set, stack-pop, stack-chained}
@@ -54,6 +54,7 @@ pub record Stored (c : Counts) (l : Storage) (m : Machine) : Type 0 where
   pub entries : Used (l .entries) (c .entries) (m .entries)
   pub unique : c .unique ≡ m .unique
   pub finished : c .finished ≡ m .finished
+  pub floor : c .floor ≡ m .floor
 
 -- by a state: the open containers too, the innermost first
 pub record Represents (s : State) (m : Machine) : Type 0 where
@@ -145,9 +146,9 @@ module _ {v : View} {l : Storage} {m : Machine} (s : Sees v l m) where
   live-law none = refl
   live-law (some n) = (λ i. open-law i && (held-law n i && ltb (seek (id-law n i) (entries-law i)) (length (entries-law i)))) ∙ live-stack m n (m .conts)
 
-  header-law : header v l ≡ headerOf (m .names) (topOf (m .conts) .object) (drop (topOf (m .conts) .entries) (m .entries)) (length (m .bytes) - topOf (m .conts) .value)
+  header-law : header v l ≡ headerOf (m .floor) (m .names) (topOf (m .conts) .object) (drop (topOf (m .conts) .entries) (m .entries)) (length (m .bytes) - topOf (m .conts) .value)
   unfolding header headerOf
-  header-law i = headerOf (names-law i) (s .inner i .object) (entries-law i) (size-law i)
+  header-law i = headerOf (s .stored .floor i) (names-law i) (s .inner i .object) (entries-law i) (size-law i)
 
   -- the rows' tests
   misnamed-law : (nm : Option Name) → misnamed nm v ≡ misnamedAt nm (m .conts)
@@ -203,6 +204,10 @@ module _ {v : View} {l : Storage} {m : Machine} (s : Sees v l m) (o : Orderly m)
       (λ i. not (s .chain i && (leb (s .inner i .value) (s .stored .value i) && (leb (s .inner i .names) (many-law s i) && (leb (s .inner i .text) (text-law s i) && leb (s .inner i .entries) (count-law s i))))))
       ∙ (λ i. not (x1 i && (x2 i && (x3 i && x4 i))))
 
+  floor-none : badFloor v ≡ false
+  unfolding badFloor
+  floor-none = ap not (ap goodFloor (s .stored .floor) ∙ o .floor)
+
   ends-none : fallenEnds v l ≡ false
   unfolding fallenEnds
   ends-none = ap not (intact-parts (v .counts .dictionary) (l .text) (l .ends) (s .stored .names .holds .sound) .rise)
@@ -250,7 +255,7 @@ module _ {v : View} {l : Storage} {m : Machine} (s : Sees v l m) (o : Orderly m)
   misread-none (finish out) = ends-none
 
   damaged-none : (c : Call) → damaged v l (misread v l c) ≡ false
-  damaged-none c = neither _ _ over-none (neither _ _ chain-none (misread-none c))
+  damaged-none c = neither _ _ over-none (neither _ _ chain-none (neither _ _ floor-none (misread-none c)))
 
   -- ---- the numbers
 
@@ -285,7 +290,7 @@ module _ {v : View} {l : Storage} {m : Machine} (s : Sees v l m) (o : Orderly m)
       rest t u = row 2 (m .finished) ∷ (row 3 (not t) ∷ (row 14 u ∷ []))
 
       go : (ks : List Container) → let es = drop (topOf ks .entries) (m .entries) in
-          first (rest (anyOpen ks) (tooLong m (lentBy l) (length (headerOf (m .names) (topOf ks .object) es (length (m .bytes) - topOf ks .value)))))
+          first (rest (anyOpen ks) (tooLong m (lentBy l) (length (headerOf (m .floor) (m .names) (topOf ks .object) es (length (m .bytes) - topOf ks .value)))))
           ≡ first (rest (anyOpen ks) (tooLong m (lentBy l) (length (headerAt m ks))))
       go [] = refl
       go (k ∷ ks) = refl
@@ -295,7 +300,7 @@ module _ {v : View} {l : Storage} {m : Machine} (s : Sees v l m) (o : Orderly m)
       first (row 1 (damaged-none (finish out) i)
       ∷ (row 2 (s .stored .finished i)
       ∷ (row 4 (open-law s i)
-      ∷ (row 15 (eqb (s .stored .value i) 0) ∷ (row 16 (not (leb (sizeOf (many-law s i) (text-law s i)) (counted (length out)))) ∷ [])))))
+      ∷ (row 15 (eqb (s .stored .value i) 0) ∷ (row 16 (not (leb (sizeOf (s .stored .floor i) (many-law s i) (text-law s i)) (counted (length out)))) ∷ [])))))
 
 -- the numbers are the machine's, so that number 1 never comes
 pub represents-number : {s : State} {m : Machine} → Represents s m → Orderly m → (c : Call) → numberOf (viewOf (s .builder)) (s .storage) c ≡ numberAt m (lentBy (s .storage)) c
@@ -484,13 +489,13 @@ module _ {v : View} {l : Storage} {m : Machine} (s : Sees v l m) where
   register-law n h =
       let t = s .stored in
       let w = names-with s (some n) h in
-      record { value = t .value; bytes = t .bytes; within = t .within; names = w .kept; entries = t .entries; unique = t .unique; finished = t .finished }
+      record { value = t .value; bytes = t .bytes; within = t .within; names = w .kept; entries = t .entries; unique = t .unique; finished = t .finished; floor = t .floor }
 
   finish-law : (out : List ℕ) → Stored (finished (v .counts)) l (apply m (finish out))
   unfolding finished apply
   finish-law out =
       let t = s .stored in
-      record { value = t .value; bytes = t .bytes; within = t .within; names = t .names; entries = t .entries; unique = t .unique; finished = refl }
+      record { value = t .value; bytes = t .bytes; within = t .within; names = t .names; entries = t .entries; unique = t .unique; finished = refl; floor = t .floor }
 
   module _ (o : Orderly m) where
     append-law : (nm : Option Name) (x : Scalars) → Admits v l nm → tooLongFor v l (length (scalarBytes (scalarOf x))) ≡ false
@@ -509,6 +514,7 @@ module _ {v : View} {l : Storage} {m : Machine} (s : Sees v l m) where
           entries = entries-with s o nm (a .named) (a .free);
           unique = t .unique;
           finished = t .finished;
+          floor = t .floor;
         }
 
     open-stored : (nm : Option Name) (object : Bool) → Admits v l nm → Stored (opened v l nm .counts) (opened v l nm .storage) (apply m (openIn nm object))
@@ -516,7 +522,7 @@ module _ {v : View} {l : Storage} {m : Machine} (s : Sees v l m) where
     open-stored nm object a =
         let t = s .stored in
         let w = names-with s nm (a .full) in
-        record { value = t .value; bytes = t .bytes; within = t .within; names = w .kept; entries = entries-with s o nm (a .named) (a .free); unique = t .unique; finished = t .finished }
+        record { value = t .value; bytes = t .bytes; within = t .within; names = w .kept; entries = entries-with s o nm (a .named) (a .free); unique = t .unique; finished = t .finished; floor = t .floor }
 
     open-container : (nm : Option Name) (object : Bool) → Admits v l nm → newContainer v l nm object ∷ m .conts ≡ apply m (openIn nm object) .conts
     unfolding newContainer apply
@@ -591,7 +597,7 @@ module _ {v : View} {l : Storage} {m : Machine} (s : Sees v l m) (o : Orderly m)
       let i : Innermost k = rw (ap topOf e) at innermost-law in
       let room = fits-law s (length (header v l)) f in
       let size : length (m .bytes) - k .value ≡ length (drop (k .value) (m .bytes)) = sym (length-drop (k .value) (m .bytes)) in
-      let hl : header v l ≡ headerOf (m .names) (k .object) (drop (k .entries) (m .entries)) (length (drop (k .value) (m .bytes))) = rw (← size) (rw (ap topOf e) at (header-law s)) in
+      let hl : header v l ≡ headerOf (m .floor) (m .names) (k .object) (drop (k .entries) (m .entries)) (length (drop (k .value) (m .bytes))) = rw (← size) (rw (ap topOf e) at (header-law s)) in
       let b : take (v .inner .value) (l .value) ≡ take (v .inner .value) (m .bytes) = before-mark (v .inner .value) (v .counts .value) (l .value) (m .bytes) (t .bytes) (i .value) in
       let r : v .counts .value + length (header v l) ≤ length (l .value) = omega arith in
       let all : take (v .counts .value + length (header v l)) (fronted (v .inner .value) (v .counts .value) (header v l) (l .value)) ≡ closeAt m (k ∷ ks) .bytes =
@@ -606,6 +612,7 @@ module _ {v : View} {l : Storage} {m : Machine} (s : Sees v l m) (o : Orderly m)
         entries = rw (← i .is) (closed-entries (v .inner .object) (v .inner .entries) _ (used s) (i .entries));
         unique = t .unique;
         finished = t .finished;
+        floor = t .floor;
       }
 
   roll-entries : (k : Container) (ks : List Container) → m .conts ≡ k ∷ ks → let below = ltb 1 (v .counts .depth) in
@@ -654,6 +661,7 @@ module _ {v : View} {l : Storage} {m : Machine} (s : Sees v l m) (o : Orderly m)
         entries = roll-entries k ks e;
         unique = t .unique;
         finished = t .finished;
+        floor = t .floor;
       }
 
 -- ---- the whole
@@ -669,7 +677,7 @@ back-size false p v l = refl
 
 -- a fresh builder represents the machine with nothing in it
 pub represents-fresh : (s : State) → Fresh (s .builder)
-    → Represents s (record { bytes = []; names = []; entries = []; conts = []; unique = s .builder .counts .unique; finished = false })
+    → Represents s (record { bytes = []; names = []; entries = []; conts = []; unique = s .builder .counts .unique; finished = false; floor = floorOf s })
 unfolding entriesOf stackOf
 represents-fresh s f =
     record {
@@ -681,6 +689,7 @@ represents-fresh s f =
         entries = record { all = rw (f .entries); room = rw (f .entries) (omega arith) };
         unique = refl;
         finished = f .finished;
+        floor = refl;
       };
       stack = rw (f .depth);
       size = f .containers;
@@ -760,7 +769,7 @@ module _ {s : State} {m : Machine} (r : Represents s m) (o : Orderly m) where
   represents-step (uniqueness u) h =
       let t = r .stored in
       record {
-        stored = record { value = t .value; bytes = t .bytes; within = t .within; names = t .names; entries = t .entries; unique = t .unique; finished = t .finished };
+        stored = record { value = t .value; bytes = t .bytes; within = t .within; names = t .names; entries = t .entries; unique = t .unique; finished = t .finished; floor = t .floor };
         stack = remarked u (m .conts) refl (sym (in-law seen) ∙ not-false _ (clear (uniqueness u) h 3));
         size = length-set (s .builder .containers) (s .builder .counts .depth - 1) (step.withUnique (view .inner) u) ∙ r .size;
       }
@@ -805,32 +814,32 @@ unfolding valueBytes
 represents-value r = r .stored .bytes
 
 -- the dictionary
-pub represents-dictionary : {s : State} {m : Machine} → Represents s m → dictionaryOf (viewOf (s .builder)) (s .storage) ≡ dictionary (m .names)
+pub represents-dictionary : {s : State} {m : Machine} → Represents s m → dictionaryOf (viewOf (s .builder)) (s .storage) ≡ dictionary (m .floor) (m .names)
 unfolding dictionaryOf
-represents-dictionary r i = dictionary (r .stored .names .holds .names i)
+represents-dictionary r i = dictionary (r .stored .floor i) (r .stored .names .holds .names i)
 
 -- its size
-pub represents-size : {s : State} {m : Machine} → Represents s m → length (dictionaryOf (viewOf (s .builder)) (s .storage)) ≡ sizeOf (length (m .names)) (length (joined (m .names)))
-represents-size {m = m} r = ap length (represents-dictionary r) ∙ dictionary-size (m .names)
+pub represents-size : {s : State} {m : Machine} → Represents s m → length (dictionaryOf (viewOf (s .builder)) (s .storage)) ≡ sizeOf (m .floor) (length (m .names)) (length (joined (m .names)))
+represents-size {m = m} r = ap length (represents-dictionary r) ∙ dictionary-size (m .floor) (m .names)
 
 -- what an accepted finish wrote, and nothing behind it
 pub record WritesDictionary (s : State) (m : Machine) (out : List ℕ) : Type 0 where
-  pub fits : sizeOf (length (m .names)) (length (joined (m .names))) ≤ counted (length out)
+  pub fits : sizeOf (m .floor) (length (m .names)) (length (joined (m .names))) ≤ counted (length out)
   pub long : length (write 0 (dictionaryOf (viewOf (s .builder)) (s .storage)) out) ≡ length out
-  pub front : take (length (dictionaryOf (viewOf (s .builder)) (s .storage))) (write 0 (dictionaryOf (viewOf (s .builder)) (s .storage)) out) ≡ dictionary (m .names)
+  pub front : take (length (dictionaryOf (viewOf (s .builder)) (s .storage))) (write 0 (dictionaryOf (viewOf (s .builder)) (s .storage)) out) ≡ dictionary (m .floor) (m .names)
   pub behind : drop (length (dictionaryOf (viewOf (s .builder)) (s .storage))) (write 0 (dictionaryOf (viewOf (s .builder)) (s .storage)) out) ≡ drop (length (dictionaryOf (viewOf (s .builder)) (s .storage))) out
   pub many : length (m .names) < 256 ^ 4
   pub text : length (joined (m .names)) < 256 ^ 4
-  pub read : dictionaryNames (dictionary (m .names)) ≡ m .names
+  pub read : dictionaryNames (dictionary (m .floor) (m .names)) ≡ m .names
 
 pub represents-finish : {s : State} {m : Machine} → Represents s m → (out : List ℕ) → numberOf (viewOf (s .builder)) (s .storage) (finish out) ≡ 0 → WritesDictionary s m out
 represents-finish {s} {m} r out h =
     let bs = dictionaryOf (viewOf (s .builder)) (s .storage) in
     let d = r .stored .names .holds in
     let ns = m .names in
-    let f : sizeOf (length ns) (length (joined ns)) ≤ counted (length out) = rw (d .count, d .total) (leb-true _ _ (not-false _ (none-at (viewOf (s .builder)) (s .storage) (finish out) h 16))) in
+    let f : sizeOf (m .floor) (length ns) (length (joined ns)) ≤ counted (length out) = rw (d .count, d .total, ← r .stored .floor) (leb-true _ _ (not-false _ (none-at (viewOf (s .builder)) (s .storage) (finish out) h 16))) in
     let n = represents-size r in
-    let least = size-least (length ns) (length (joined ns)) in
+    let least = size-least (m .floor) (length ns) (length (joined ns)) in
     let a : length ns < 256 ^ 4 = omega arith in
     let b : length (joined ns) < 256 ^ 4 = omega arith in
     record {
@@ -840,5 +849,5 @@ represents-finish {s} {m} r out h =
       behind = rw zero-add at (drop-write 0 bs out (omega arith));
       many = a;
       text = b;
-      read = dictionary-read ns a b;
+      read = dictionary-read (m .floor) ns a b;
     }

@@ -13,7 +13,7 @@ use Rattle.semantics.specs.Record.{State, viewOf, fixed, bytes, uuid, Ca
 use Rattle.semantics.specs.Step.{step, after, outputOf, writtenBy}
 use Rattle.semantics.specs.History.{accepted, fed}
 use Rattle.semantics.specs.Ledger.{Lent, Account, refusalOf}
-use Rattle.semantics.specs.Run.{Fresh, FinishedRun, run, refused, isFinish, dictionaryBytes, historyFrom, historyOf, noAccount, accountAfter, accountFrom, accountOf, lentBy}
+use Rattle.semantics.specs.Run.{Fresh, FinishedRun, floorOf, run, refused, isFinish, dictionaryBytes, historyFrom, historyOf, noAccount, accountAfter, accountFrom, accountOf, lentBy}
 use Rattle.semantics.proofs.Demand1.{step-number, number-leaves}
 use Rattle.semantics.proofs.Machine.{Machine, apply, rowsAt, numberAt}
 use Rattle.semantics.proofs.Refinement.{Represents, represents-fresh, represents-number, represents-step, represents-lent}
@@ -59,12 +59,12 @@ pub record Follows (lent : Lent) (s : State) (a : Account) : Type 0 where
   pub room : lentBy (s .storage) ≡ lent
 
 -- A FRESH BUILDER
-pub follows-fresh : (s : State) → Fresh (s .builder) → Follows (lentBy (s .storage)) s (noAccount (s .builder .counts .unique))
+pub follows-fresh : (s : State) → Fresh (s .builder) → Follows (lentBy (s .storage)) s (noAccount (s .builder .counts .unique) (floorOf s))
 follows-fresh s f =
     record {
-      machine = record { bytes = []; names = []; entries = []; conts = []; unique = s .builder .counts .unique; finished = false };
+      machine = record { bytes = []; names = []; entries = []; conts = []; unique = s .builder .counts .unique; finished = false; floor = floorOf s };
       represents = represents-fresh s f;
-      linked = linked-fresh (s .builder .counts .unique);
+      linked = linked-fresh (s .builder .counts .unique) (floorOf s) (f .floor);
       room = refl;
     }
 
@@ -127,7 +127,17 @@ history-from a s (c ∷ cs) = history-from (accountAfter a c (refused s c)) (ste
 -- the account's history is the history
 pub account-history : (s : State) (cs : List Call) → accountOf s cs .history ≡ historyOf s cs
 unfolding accountOf historyOf
-account-history s cs = history-from (noAccount (s .builder .counts .unique)) s cs
+account-history s cs = history-from (noAccount (s .builder .counts .unique) (floorOf s)) s cs
+
+floor-from : (a : Account) (s : State) (cs : List Call) → accountFrom a s cs .floor ≡ a .floor
+unfolding accountFrom accountAfter
+floor-from a s [] = refl
+floor-from a s (c ∷ cs) = floor-from (accountAfter a c (refused s c)) (step s c .state) cs
+
+-- and its floor the run's
+pub account-floor : (s : State) (cs : List Call) → accountOf s cs .floor ≡ floorOf s
+unfolding accountOf
+account-floor s cs = floor-from (noAccount (s .builder .counts .unique) (floorOf s)) s cs
 
 -- ---- after an accepted finish
 
@@ -232,7 +242,7 @@ ends {s = s} {a = a} x f (c ∷ cs) e = go (isFinish c && eqb (step s c .number)
     go false p h = ends-later p (h (rw (f, twice (eqb (step s c .number) 0)) p))
 
 -- of a finished run
-pub run-ends : {s : State} {cs : List Call} → FinishedRun s cs → Ends s (noAccount (s .builder .counts .unique)) cs
+pub run-ends : {s : State} {cs : List Call} → FinishedRun s cs → Ends s (noAccount (s .builder .counts .unique) (floorOf s)) cs
 run-ends {s} {cs} r = ends (follows-fresh s (r .fresh)) refl cs (r .finished)
 
 -- its history is that before the finish

@@ -17,7 +17,7 @@ use Rattle.metadata.specs.Bytes.{joined}
 use Rattle.metadata.proofs.DictionaryLaws.{Distinct}
 use Rattle.container.specs.Entries.{roomFor}
 use Rattle.semantics.specs.declared.Container.{Container}
-use Rattle.semantics.specs.Record.{Scalars, Call, register, append, openIn, close, rollBack, uniqueness, finish, scalarOf}
+use Rattle.semantics.specs.Record.{Scalars, Call, register, append, openIn, close, rollBack, uniqueness, finish, scalarOf, goodFloor}
 use Rattle.semantics.specs.Table.{scalarRows}
 use Rattle.semantics.specs.Step.{withUnique}
 use Rattle.semantics.specs.Tree.{Tree, scalar, encode}
@@ -47,13 +47,13 @@ append-at m lent nm x k n =
     clear-at n (a ++ b) (clear-around a (scalarRows x) b k)
 
 -- 5: a name is given exactly in an object
-named-at : (top : Option Tree) (u : Bool) (ls : List Level) (ks : List Container) (ns : List Name) (s : Used) (nm : Option Name) → Levels top u ls ks ns s → misnamedAt nm ks ≡ false
+named-at : (floor : ℕ) (top : Option Tree) (u : Bool) (ls : List Level) (ks : List Container) (ns : List Name) (s : Used) (nm : Option Name) → Levels floor top u ls ks ns s → misnamedAt nm ks ≡ false
     → Named (innerObject ls) nm
-named-at top u [] [] ns s none x e = tt
-named-at top u [] [] ns s (some n) x e = true≢false e
-named-at top u [] (k ∷ ks) ns s nm x e = absurd x
-named-at top u (l ∷ ls) [] ns s nm x e = absurd x
-named-at top u (l ∷ ls) (k ∷ ks) ns s nm x e = go nm (l .object) (x .opened .object) e
+named-at floor top u [] [] ns s none x e = tt
+named-at floor top u [] [] ns s (some n) x e = true≢false e
+named-at floor top u [] (k ∷ ks) ns s nm x e = absurd x
+named-at floor top u (l ∷ ls) [] ns s nm x e = absurd x
+named-at floor top u (l ∷ ls) (k ∷ ks) ns s nm x e = go nm (l .object) (x .opened .object) e
   where
     go : (nm : Option Name) (t : Bool) → k .object ≡ t → misnamedAt nm (k ∷ ks) ≡ false → Named t nm
     go none true p e = true≢false (sym p ∙ e)
@@ -62,13 +62,13 @@ named-at top u (l ∷ ls) (k ∷ ks) ns s nm x e = go nm (l .object) (x .opened 
     go (some n) false p e = true≢false (ap not (sym p) ∙ e)
 
 -- 6: there is no top value
-topless-at : (top : Option Tree) (u : Bool) (ls : List Level) (ks : List Container) (ns : List Name) (s : Used) → Levels top u ls ks ns s → (not (anyOpen ks) && ltb 0 (length (s .bytes))) ≡ false
+topless-at : (floor : ℕ) (top : Option Tree) (u : Bool) (ls : List Level) (ks : List Container) (ns : List Name) (s : Used) → Levels floor top u ls ks ns s → (not (anyOpen ks) && ltb 0 (length (s .bytes))) ≡ false
     → top ≡ none
-topless-at none u [] [] ns s x e = refl
-topless-at (some t) u [] [] ns s x e = absurd (omega (arith, ltb-false 0 (length (s .bytes)) e, encode-some ns t, ap length (x .value)))
-topless-at top u [] (k ∷ ks) ns s x e = absurd x
-topless-at top u (l ∷ ls) [] ns s x e = absurd x
-topless-at top u (l ∷ ls) (k ∷ ks) ns s x e = x .topless
+topless-at floor none u [] [] ns s x e = refl
+topless-at floor (some t) u [] [] ns s x e = absurd (omega (arith, ltb-false 0 (length (s .bytes)) e, encode-some floor ns t, ap length (x .value)))
+topless-at floor top u [] (k ∷ ks) ns s x e = absurd x
+topless-at floor top u (l ∷ ls) [] ns s x e = absurd x
+topless-at floor top u (l ∷ ls) (k ∷ ks) ns s x e = x .topless
 
 -- 14: a scalar that fits is whole
 whole-at : (v : Scalars) (at size : ℕ) → not (fits at (length (scalarBytes (scalarOf v))) size) ≡ false → Whole (scalarOf v)
@@ -81,42 +81,42 @@ whole-at v at size e =
 -- the machine after a call beside the history, sums and marks after it
 pub record Next (m : Machine) (h : History) (sums : List ℕ) (marks : List Bool) : Type 0 where
   pub names : m .names ≡ h .names
-  pub levels : Levels (h .top) (m .unique) (h .levels) (m .conts) (m .names) (usedBy m sums marks)
+  pub levels : Levels (m .floor) (h .top) (m .unique) (h .levels) (m .conts) (m .names) (usedBy m sums marks)
 
-marks-open : (top : Option Tree) (u : Bool) (ls : List Level) (ks : List Container) (ns : List Name) (s : Used) (nm : Option Name) (object : Bool) → Levels top u ls ks ns s
+marks-open : (floor : ℕ) (top : Option Tree) (u : Bool) (ls : List Level) (ks : List Container) (ns : List Name) (s : Used) (nm : Option Name) (object : Bool) → Levels floor top u ls ks ns s
     → marksAfter (s .marks) (openIn nm object) false ≡ markNow (s .marks) ∷ s .marks
 unfolding marksAfter
-marks-open top u [] [] ns s nm object x = rw (x .marksAre)
-marks-open top u [] (k ∷ ks) ns s nm object x = absurd x
-marks-open top u (l ∷ ls) [] ns s nm object x = absurd x
-marks-open top u (l ∷ ls) (k ∷ ks) ns s nm object x = rw (x .marksAre)
+marks-open floor top u [] [] ns s nm object x = rw (x .marksAre)
+marks-open floor top u [] (k ∷ ks) ns s nm object x = absurd x
+marks-open floor top u (l ∷ ls) [] ns s nm object x = absurd x
+marks-open floor top u (l ∷ ls) (k ∷ ks) ns s nm object x = rw (x .marksAre)
 
 module _ (m : Machine) (top : Option Tree) (sums : List ℕ) (marks : List Bool) where
   abbrev historyAt : List Level → History
   historyAt ls = record { names = m .names; top = top; levels = ls }
 
   abbrev LevelsAt : List Level → List Container → Type 0
-  LevelsAt ls ks = Levels top (m .unique) ls ks (m .names) (usedBy m sums marks)
+  LevelsAt ls ks = Levels (m .floor) top (m .unique) ls ks (m .names) (usedBy m sums marks)
 
   next-register : (ls : List Level) (n : Name) → Chained (m .names) top ls → LevelsAt ls (m .conts)
-      → Next (apply m (register n)) (accepted (historyAt ls) (register n)) (summed (historyAt ls) sums (register n)) (marksAfter marks (register n) false)
+      → Next (apply m (register n)) (accepted (historyAt ls) (register n)) (summed (m .floor) (historyAt ls) sums (register n)) (marksAfter marks (register n) false)
   unfolding apply accepted summed marksAfter
-  next-register ls n c x = record { names = refl; levels = levels-grow top (m .unique) ls (m .conts) (usedBy m sums marks) (with-extends (m .names) (some n)) c x }
+  next-register ls n c x = record { names = refl; levels = levels-grow (m .floor) top (m .unique) ls (m .conts) (usedBy m sums marks) (with-extends (m .names) (some n)) c x }
 
   next-append : (ls : List Level) (nm : Option Name) (v : Scalars) → Chained (m .names) top ls → Named (innerObject ls) nm → top ≡ none → LevelsAt ls (m .conts)
-      → Next (apply m (append nm v)) (accepted (historyAt ls) (append nm v)) (summed (historyAt ls) sums (append nm v)) (marksAfter marks (append nm v) false)
+      → Next (apply m (append nm v)) (accepted (historyAt ls) (append nm v)) (summed (m .floor) (historyAt ls) sums (append nm v)) (marksAfter marks (append nm v) false)
   unfolding apply accepted summed marksAfter encode
   next-append ls nm v c n t x =
       let ns = withName (m .names) nm in
       let e = with-extends (m .names) nm in
       record {
         names = sym (enter-names ns top ls nm (scalar (scalarOf v)));
-        levels = levels-enter top (m .unique) ls (m .conts) ns (usedBy m sums marks) nm (scalar (scalarOf v)) t (chained-grows top ls e c) n (with-held (m .names) nm)
-            (levels-grow top (m .unique) ls (m .conts) (usedBy m sums marks) e c x);
+        levels = levels-enter (m .floor) top (m .unique) ls (m .conts) ns (usedBy m sums marks) nm (scalar (scalarOf v)) t (chained-grows top ls e c) n (with-held (m .names) nm)
+            (levels-grow (m .floor) top (m .unique) ls (m .conts) (usedBy m sums marks) e c x);
       }
 
   next-open : (ls : List Level) (nm : Option Name) (object : Bool) → top ≡ none → LevelsAt ls (m .conts)
-      → Next (apply m (openIn nm object)) (accepted (historyAt ls) (openIn nm object)) (summed (historyAt ls) sums (openIn nm object)) (marksAfter marks (openIn nm object) false)
+      → Next (apply m (openIn nm object)) (accepted (historyAt ls) (openIn nm object)) (summed (m .floor) (historyAt ls) sums (openIn nm object)) (marksAfter marks (openIn nm object) false)
   unfolding apply accepted summed
   next-open ls nm object t x =
       let ns = withName (m .names) nm in
@@ -129,36 +129,36 @@ module _ (m : Machine) (top : Option Tree) (sums : List ℕ) (marks : List Bool)
           bytesAre = sym (append-nil (m .bytes));
           entriesAre = sym (append-nil (note ns (m .conts) nm (length (m .bytes)) (m .entries)));
           sumsAre = refl;
-          marksAre = marks-open top (m .unique) ls (m .conts) (m .names) (usedBy m sums marks) nm object x ∙ ap (λ u. u ∷ marks) (sym (levels-unique m sums marks top ls (m .conts) x));
+          marksAre = marks-open (m .floor) top (m .unique) ls (m .conts) (m .names) (usedBy m sums marks) nm object x ∙ ap (λ u. u ∷ marks) (sym (levels-unique m sums marks (m .floor) top ls (m .conts) x));
           opened = record { value = refl; names = refl; text = refl; entries = refl; object = refl; parent = refl };
           topless = t;
           grows = extends-same ns;
-          layer = layer-new ns object;
+          layer = layer-new (m .floor) ns object;
           under = x;
         };
       }
 
   next-close : (ls : List Level) (ks : List Container) → anyOpen ks ≡ true → Distinct (m .names) → FormedLevels ls → Chained (m .names) top ls → LevelsAt ls ks
-      → Next (closeAt m ks) (closeLevel (m .names) top ls) (summed (historyAt ls) sums close) (marksAfter marks close false)
+      → Next (closeAt m ks) (closeLevel (m .names) top ls) (summed (m .floor) (historyAt ls) sums close) (marksAfter marks close false)
   unfolding summed
   next-close [] [] o d f c x = absurd (true≢false (sym o))
   next-close [] (k ∷ ks) o d f c x = absurd x
   next-close (l ∷ ls) [] o d f c x = absurd x
   next-close (l ∷ ls) (k ∷ ks) o d f c x =
-      record { names = sym (close-names (m .names) top (l ∷ ls)); levels = levels-close top (m .unique) l ls k ks (m .names) (usedBy m sums marks) d c (f .1) x }
+      record { names = sym (close-names (m .names) top (l ∷ ls)); levels = levels-close (m .floor) top (m .unique) l ls k ks (m .names) (usedBy m sums marks) d c (f .1) x }
 
   next-roll : (ls : List Level) (ks : List Container) → anyOpen ks ≡ true → LevelsAt ls ks
-      → Next (rollAt m ks) (dropLevel (m .names) top ls) (summed (historyAt ls) sums rollBack) (marksAfter marks rollBack false)
+      → Next (rollAt m ks) (dropLevel (m .names) top ls) (summed (m .floor) (historyAt ls) sums rollBack) (marksAfter marks rollBack false)
   unfolding summed dropLevel
   next-roll [] [] o x = absurd (true≢false (sym o))
   next-roll [] (k ∷ ks) o x = absurd x
   next-roll (l ∷ ls) [] o x = absurd x
   next-roll (l ∷ ls) (k ∷ ks) o x =
       let e = names-roll x in
-      record { names = e; levels = rw e (levels-roll top (m .unique) l ls k ks (m .names) (usedBy m sums marks) x) }
+      record { names = e; levels = rw e (levels-roll (m .floor) top (m .unique) l ls k ks (m .names) (usedBy m sums marks) x) }
 
   next-unique : (ls : List Level) (ks : List Container) (u : Bool) → objectInner ks ≡ true → LevelsAt ls ks
-      → Levels top (m .unique) ls (markAt u ks) (m .names) (usedBy m sums (marksAfter marks (uniqueness u) false))
+      → Levels (m .floor) top (m .unique) ls (markAt u ks) (m .names) (usedBy m sums (marksAfter marks (uniqueness u) false))
   unfolding withUnique marksAfter
   next-unique [] [] u o x = absurd (true≢false (sym o))
   next-unique [] (k ∷ ks) u o x = absurd x
@@ -181,24 +181,28 @@ module _ (m : Machine) (top : Option Tree) (sums : List ℕ) (marks : List Bool)
 
 -- ---- the relation
 
--- a machine beside an account: the same names, the open containers level by level with sums and marks, and below them either
+-- a machine beside an account: the same names and floor, the open containers level by level with sums and marks, and below them either
 -- no top value and no bytes or the top value's bytes
 pub record Linked (m : Machine) (a : Account) : Type 0 where
   pub names : m .names ≡ a .history .names
   pub finished : m .finished ≡ a .finished
+  pub floor : m .floor ≡ a .floor
+  pub good : goodFloor (m .floor) ≡ true
   pub depth : length (m .conts) ≤ 64
   pub orderly : history.Orderly (a .history)
   pub formed : WellFormed (a .history)
-  pub levels : Levels (a .history .top) (m .unique) (a .history .levels) (m .conts) (m .names) (usedBy m (a .sums) (a .marks))
+  pub levels : Levels (m .floor) (a .history .top) (m .unique) (a .history .levels) (m .conts) (m .names) (usedBy m (a .sums) (a .marks))
 
 -- A FRESH BUILDER
-pub linked-fresh : (unique : Bool)
-    → Linked (record { bytes = []; names = []; entries = []; conts = []; unique = unique; finished = false }) (noAccount unique)
+pub linked-fresh : (unique : Bool) (floor : ℕ) → goodFloor floor ≡ true
+    → Linked (record { bytes = []; names = []; entries = []; conts = []; unique = unique; finished = false; floor = floor }) (noAccount unique floor)
 unfolding noLedger
-linked-fresh unique =
+linked-fresh unique floor g =
     record {
       names = refl;
       finished = refl;
+      floor = refl;
+      good = g;
       depth = omega arith;
       orderly = orderly-none;
       formed = formed-none;
@@ -214,19 +218,19 @@ module _ (m : Machine) (top : Option Tree) (sums : List ℕ) (marks : List Bool)
 
   suits : (lent : Lent) (c : Call) → Clear (rowsAt m lent c) → Suits here c
   suits lent (register n) k = tt
-  suits lent (append nm v) k = (named-at top (m .unique) ls (m .conts) (m .names) (usedBy m sums marks) nm x (append-at m lent nm v k 5), whole-at v (length (m .bytes)) (lent .value) (append-at m lent nm v k 14))
-  suits lent (openIn nm object) k = named-at top (m .unique) ls (m .conts) (m .names) (usedBy m sums marks) nm x (none-at m lent (openIn nm object) k 5)
+  suits lent (append nm v) k = (named-at (m .floor) top (m .unique) ls (m .conts) (m .names) (usedBy m sums marks) nm x (append-at m lent nm v k 5), whole-at v (length (m .bytes)) (lent .value) (append-at m lent nm v k 14))
+  suits lent (openIn nm object) k = named-at (m .floor) top (m .unique) ls (m .conts) (m .names) (usedBy m sums marks) nm x (none-at m lent (openIn nm object) k 5)
   suits lent close k = tt
   suits lent rollBack k = tt
   suits lent (uniqueness u) k = tt
   suits lent (finish out) k = tt
 
-  next : (lent : Lent) (c : Call) → Clear (rowsAt m lent c) → Next (apply m c) (accepted here c) (summed here sums c) (marksAfter marks c false)
+  next : (lent : Lent) (c : Call) → Clear (rowsAt m lent c) → Next (apply m c) (accepted here c) (summed (m .floor) here sums c) (marksAfter marks c false)
   unfolding apply accepted summed marksAfter
   next lent (register n) k = next-register m top sums marks ls n (o .chained) x
   next lent (append nm v) k =
-      next-append m top sums marks ls nm v (o .chained) (suits lent (append nm v) k .0) (topless-at top (m .unique) ls (m .conts) (m .names) (usedBy m sums marks) x (append-at m lent nm v k 6)) x
-  next lent (openIn nm object) k = next-open m top sums marks ls nm object (topless-at top (m .unique) ls (m .conts) (m .names) (usedBy m sums marks) x (none-at m lent (openIn nm object) k 6)) x
+      next-append m top sums marks ls nm v (o .chained) (suits lent (append nm v) k .0) (topless-at (m .floor) top (m .unique) ls (m .conts) (m .names) (usedBy m sums marks) x (append-at m lent nm v k 6)) x
+  next lent (openIn nm object) k = next-open m top sums marks ls nm object (topless-at (m .floor) top (m .unique) ls (m .conts) (m .names) (usedBy m sums marks) x (none-at m lent (openIn nm object) k 6)) x
   next lent close k = next-close m top sums marks ls (m .conts) (not-false (anyOpen (m .conts)) (none-at m lent close k 3)) (o .distinct) (w .formedLevels) (o .chained) x
   next lent rollBack k = next-roll m top sums marks ls (m .conts) (not-false (anyOpen (m .conts)) (none-at m lent rollBack k 3)) x
   next lent (uniqueness u) k = record { names = refl; levels = next-unique m top sums marks ls (m .conts) u (not-false (objectInner (m .conts)) (none-at m lent (uniqueness u) k 3)) x }
@@ -284,12 +288,31 @@ finished-after m t c e = go c ∙ ap (λ z. z || (isFinish c && true)) e
     go (uniqueness u) = same (m .finished)
     go (finish out) = over (m .finished)
 
--- the account as it stands, with the machine's own list of names
+-- no call changes the floor
+floor-after : (m : Machine) (c : Call) → apply m c .floor ≡ m .floor
+unfolding apply
+floor-after m (register n) = refl
+floor-after m (append nm v) = refl
+floor-after m (openIn nm object) = refl
+floor-after m close = go (m .conts)
+  where
+    go : (ks : List Container) → closeAt m ks .floor ≡ m .floor
+    go [] = refl
+    go (k ∷ ks) = refl
+floor-after m rollBack = go (m .conts)
+  where
+    go : (ks : List Container) → rollAt m ks .floor ≡ m .floor
+    go [] = refl
+    go (k ∷ ks) = refl
+floor-after m (uniqueness u) = refl
+floor-after m (finish out) = refl
+
+-- the account as it stands, with the machine's own list of names and floor
 abbrev named : Machine → Account → Account
-named m a = record { history = record { names = m .names; top = a .history .top; levels = a .history .levels }; sums = a .sums; marks = a .marks; finished = a .finished }
+named m a = record { history = record { names = m .names; top = a .history .top; levels = a .history .levels }; sums = a .sums; marks = a .marks; finished = a .finished; floor = m .floor }
 
 named-same : {m : Machine} {a : Account} → Linked m a → named m a ≡ a
-named-same {a} x = λ i. record { history = record { names = x .names i; top = a .history .top; levels = a .history .levels }; sums = a .sums; marks = a .marks; finished = a .finished }
+named-same {a} x = λ i. record { history = record { names = x .names i; top = a .history .top; levels = a .history .levels }; sums = a .sums; marks = a .marks; finished = a .finished; floor = x .floor i }
 
 -- THE STEP: a call that no row refuses keeps machine and account linked.
 pub linked-step : {m : Machine} {a : Account} → Linked m a → (lent : Lent) (c : Call) → Clear (rowsAt m lent c) → Linked (apply m c) (accountAfter a c false)
@@ -304,6 +327,8 @@ linked-step {m} {a} x lent c k =
     let y : Linked (apply m c) (accountAfter (named m a) c false) = record {
       names = n .names;
       finished = finished-after m (a .finished) c (x .finished);
+      floor = floor-after m c;
+      good = ap goodFloor (floor-after m c) ∙ x .good;
       depth = depth-after m lent c k (x .depth);
       orderly = accepted-orderly (named m a .history) c o;
       formed = accepted-formed (named m a .history) c (suits m top (a .sums) (a .marks) ls o w (x .levels) lent c k) w;
@@ -351,35 +376,35 @@ module _ (m : Machine) (a : Account) (x : Linked m a) where
   distinct = rw (x .names) (x .orderly .distinct)
 
   bytes-agree : length (m .bytes) ≡ total (a .sums)
-  bytes-agree = levels-total (a .history .top) (m .unique) (a .history .levels) (m .conts) (m .names) (usedBy m (a .sums) (a .marks)) (x .levels)
+  bytes-agree = levels-total (m .floor) (a .history .top) (m .unique) (a .history .levels) (m .conts) (m .names) (usedBy m (a .sums) (a .marks)) (x .levels)
 
   open-agree : anyOpen (m .conts) ≡ ledger.anyOpen (a .history .levels)
-  open-agree = levels-open (a .history .top) (m .unique) (a .history .levels) (m .conts) (m .names) (usedBy m (a .sums) (a .marks)) (x .levels)
+  open-agree = levels-open (m .floor) (a .history .top) (m .unique) (a .history .levels) (m .conts) (m .names) (usedBy m (a .sums) (a .marks)) (x .levels)
 
   object-agree : objectInner (m .conts) ≡ ledger.objectInner (a .history .levels)
-  object-agree = levels-object (a .history .top) (m .unique) (a .history .levels) (m .conts) (m .names) (usedBy m (a .sums) (a .marks)) (x .levels)
+  object-agree = levels-object (m .floor) (a .history .top) (m .unique) (a .history .levels) (m .conts) (m .names) (usedBy m (a .sums) (a .marks)) (x .levels)
 
   depth-agree : length (m .conts) ≡ length (a .history .levels)
-  depth-agree = levels-depth (a .history .top) (m .unique) (a .history .levels) (m .conts) (m .names) (usedBy m (a .sums) (a .marks)) (x .levels)
+  depth-agree = levels-depth (m .floor) (a .history .top) (m .unique) (a .history .levels) (m .conts) (m .names) (usedBy m (a .sums) (a .marks)) (x .levels)
 
   entries-agree : length (m .entries) ≡ ledger.entriesUsed (m .names) (a .history .levels)
   entries-agree =
-      levels-used (a .history .top) (m .unique) (a .history .levels) (m .conts) (m .names) (usedBy m (a .sums) (a .marks)) distinct (x .formed .formedLevels) chained (x .levels)
+      levels-used (m .floor) (a .history .top) (m .unique) (a .history .levels) (m .conts) (m .names) (usedBy m (a .sums) (a .marks)) distinct (x .formed .formedLevels) chained (x .levels)
 
   misnamed-agree : (nm : Option Name) → misnamedAt nm (m .conts) ≡ ledger.misnamedIn nm (a .history .levels)
   misnamed-agree none = object-agree
   misnamed-agree (some n) = ap not object-agree
 
   unique-agree : uniqueAt m (m .conts) ≡ markNow (a .marks)
-  unique-agree = levels-unique m (a .sums) (a .marks) (a .history .top) (a .history .levels) (m .conts) (x .levels)
+  unique-agree = levels-unique m (a .sums) (a .marks) (m .floor) (a .history .top) (a .history .levels) (m .conts) (x .levels)
 
   -- row 5 holds for a name in a list, so that row 10 need not agree there
   live-agree : (nm : Option Name) → misnamedAt nm (m .conts) ≡ false → liveAt m nm (m .conts) ≡ ledger.liveIn nm (a .history .levels)
   live-agree nm e =
-      levels-live m (a .sums) (a .marks) (a .history .top) (m .unique) (a .history .levels) (m .conts) nm
-      (named-at (a .history .top) (m .unique) (a .history .levels) (m .conts) (m .names) (usedBy m (a .sums) (a .marks)) nm (x .levels) e) chained (x .levels)
+      levels-live m (a .sums) (a .marks) (m .floor) (a .history .top) (m .unique) (a .history .levels) (m .conts) nm
+      (named-at (m .floor) (a .history .top) (m .unique) (a .history .levels) (m .conts) (m .names) (usedBy m (a .sums) (a .marks)) nm (x .levels) e) chained (x .levels)
 
-  header-agree : length (headerAt m (m .conts)) ≡ headerSize (m .names) (a .history .levels) (innerSum (a .sums))
+  header-agree : length (headerAt m (m .conts)) ≡ headerSize (m .floor) (m .names) (a .history .levels) (innerSum (a .sums))
   header-agree = levels-header m (a .sums) (a .marks) (a .history .top) (m .unique) (a .history .levels) (m .conts) distinct chained (x .levels)
 
   second-agree : (not (anyOpen (m .conts)) && ltb 0 (length (m .bytes))) ≡ (not (ledger.anyOpen (a .history .levels)) && ltb 0 (total (a .sums)))
@@ -447,12 +472,13 @@ linked-orderly {m} {a} x =
     let c = chained m a x in
     let f = x .formed .formedLevels in
     record {
-      rising = levels-rising top (m .unique) ls (m .conts) (m .names) (usedBy m (a .sums) (a .marks)) (length (m .bytes)) (length (m .names)) (length (joined (m .names))) (length (m .entries))
+      rising = levels-rising (m .floor) top (m .unique) ls (m .conts) (m .names) (usedBy m (a .sums) (a .marks)) (length (m .bytes)) (length (m .names)) (length (joined (m .names))) (length (m .entries))
           (omega arith) (omega arith) (omega arith) (omega arith) f c (x .levels);
       depth = x .depth;
-      inner = levels-inner m (a .sums) (a .marks) top (m .unique) ls (m .conts) c (x .levels);
-      parent = levels-parent top (m .unique) ls m (m .conts) (a .sums) (a .marks) f c (x .levels);
+      inner = levels-inner m (a .sums) (a .marks) (m .floor) top (m .unique) ls (m .conts) c (x .levels);
+      parent = levels-parent (m .floor) top (m .unique) ls m (m .conts) (a .sums) (a .marks) f c (x .levels);
       distinct = distinct m a x;
+      floor = x .good;
     }
 
 -- the used value bytes are the ledger's
@@ -460,25 +486,25 @@ pub linked-account : {m : Machine} {a : Account} → Linked m a → length (m .b
 linked-account {m} {a} x = bytes-agree m a x
 
 -- no level is open exactly where no container is
-shut : (top : Option Tree) (u : Bool) (ls : List Level) (ks : List Container) (ns : List Name) (s : Used) → Levels top u ls ks ns s → ks ≡ [] → (ls ≡ []) × Ground top u ns s
-shut top u [] [] ns s x e = (refl, x)
-shut top u [] (k ∷ ks) ns s x e = absurd x
-shut top u (l ∷ ls) [] ns s x e = absurd x
-shut top u (l ∷ ls) (k ∷ ks) ns s x e = absurd (omega (arith, ap length e))
+shut : (floor : ℕ) (top : Option Tree) (u : Bool) (ls : List Level) (ks : List Container) (ns : List Name) (s : Used) → Levels floor top u ls ks ns s → ks ≡ [] → (ls ≡ []) × Ground floor top u ns s
+shut floor top u [] [] ns s x e = (refl, x)
+shut floor top u [] (k ∷ ks) ns s x e = absurd x
+shut floor top u (l ∷ ls) [] ns s x e = absurd x
+shut floor top u (l ∷ ls) (k ∷ ks) ns s x e = absurd (omega (arith, ap length e))
 
 -- where no container is open: no level, no entries, and the top value's bytes or none
-pub linked-shut : {m : Machine} {a : Account} → Linked m a → m .conts ≡ [] → (a .history .levels ≡ []) × Ground (a .history .top) (m .unique) (m .names) (usedBy m (a .sums) (a .marks))
-linked-shut {m} {a} x e = shut (a .history .top) (m .unique) (a .history .levels) (m .conts) (m .names) (usedBy m (a .sums) (a .marks)) (x .levels) e
+pub linked-shut : {m : Machine} {a : Account} → Linked m a → m .conts ≡ [] → (a .history .levels ≡ []) × Ground (m .floor) (a .history .top) (m .unique) (m .names) (usedBy m (a .sums) (a .marks))
+linked-shut {m} {a} x e = shut (m .floor) (a .history .top) (m .unique) (a .history .levels) (m .conts) (m .names) (usedBy m (a .sums) (a .marks)) (x .levels) e
 
 -- where no container is open, the used value bytes are those of the top value
-pub linked-value : {m : Machine} {a : Account} → Linked m a → m .conts ≡ [] → (t : Tree) → a .history .top ≡ some t → m .bytes ≡ encode (a .history .names) t
-linked-value {m} {a} x e t p = rw p at (linked-shut x e .1 .value) ∙ ap (λ ns. encode ns t) (x .names)
+pub linked-value : {m : Machine} {a : Account} → Linked m a → m .conts ≡ [] → (t : Tree) → a .history .top ≡ some t → m .bytes ≡ encode (a .floor) (a .history .names) t
+linked-value {m} {a} x e t p = rw p at (linked-shut x e .1 .value) ∙ (λ i. encode (x .floor i) (x .names i) t)
 
 -- then no level is open either, and where value bytes are used there is a top value
 pub linked-top : {m : Machine} {a : Account} → Linked m a → m .conts ≡ [] → (a .history .levels ≡ []) × (0 < length (m .bytes) → (t : Tree) × (a .history .top ≡ some t))
 linked-top {m} {a} x e = (linked-shut x e .0, λ h. go (a .history .top) (linked-shut x e .1 .value) h)
   where
-    go : (top : Option Tree) → Topped top (m .names) (m .bytes) → 0 < length (m .bytes) → (t : Tree) × (top ≡ some t)
+    go : (top : Option Tree) → Topped (m .floor) top (m .names) (m .bytes) → 0 < length (m .bytes) → (t : Tree) × (top ≡ some t)
     go none v h = absurd (omega (arith, ap length v))
     go (some t) v h = (t, refl)
 
@@ -489,7 +515,7 @@ linked-formed x = x .formed
 -- a refused call changes no account
 pub account-refused : (a : Account) (c : Call) → accountAfter a c true ≡ a
 unfolding accountAfter fed ledgerAfter marksAfter
-account-refused a c = λ i. record { history = a .history; sums = a .sums; marks = same (a .marks) c i; finished = stays (isFinish c) (a .finished) i }
+account-refused a c = λ i. record { history = a .history; sums = a .sums; marks = same (a .marks) c i; finished = stays (isFinish c) (a .finished) i; floor = a .floor }
   where
     same : (us : List Bool) (c : Call) → marksAfter us c true ≡ us
     same us c = refl

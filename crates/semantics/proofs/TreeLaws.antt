@@ -57,15 +57,15 @@ abbrev mutual
   HeldItems names (item m t is) = HeldMark names m × Held names t × HeldItems names is
 
 -- both, of a tree whose bytes four bytes count
-pub record Sound (names : List Name) (t : Tree) : Type 0 where
+pub record Sound (floor : ℕ) (names : List Name) (t : Tree) : Type 0 where
   pub formed : Formed t
   pub held : Held names t
-  pub small : length (encode names t) < 256 ^ 4
+  pub small : length (encode floor names t) < 256 ^ 4
 
-pub record SoundItems (names : List Name) (object : Bool) (is : Items) : Type 0 where
+pub record SoundItems (floor : ℕ) (names : List Name) (object : Bool) (is : Items) : Type 0 where
   pub formed : FormedItems object is
   pub held : HeldItems names is
-  pub small : length (dataOf (partsOf names is)) < 256 ^ 4
+  pub small : length (dataOf (partsOf floor names is)) < 256 ^ 4
 
 -- ---- a container's numbers are bounded
 
@@ -76,44 +76,44 @@ starts-bounded at size (p ∷ ps) h =
     let l = length-append (p .bytes) (dataOf ps) in
     (omega arith, starts-bounded (at + length (p .bytes)) size ps (omega arith))
 
-pub list-bounded : (ps : List Part) → length (listBytes ps) < 256 ^ 4 → BoundsList (startsFrom 0 ps) (length (dataOf ps))
+pub list-bounded : (floor : ℕ) (ps : List Part) → length (listBytes floor ps) < 256 ^ 4 → BoundsList (startsFrom 0 ps) (length (dataOf ps))
 unfolding listBytes
-list-bounded ps h =
+list-bounded floor ps h =
     let size = length (dataOf ps) in
-    let l = length-append (listHeader (startsFrom 0 ps) size) (dataOf ps) in
-    let c = list-count (startsFrom 0 ps) size in
+    let l = length-append (listHeader floor (startsFrom 0 ps) size) (dataOf ps) in
+    let c = list-count floor (startsFrom 0 ps) size in
     record { count = omega arith; offsets = starts-bounded 0 size ps (omega arith); size = omega arith }
 
-module _ (names : List Name) where
-  pub fields-placed : (at size : ℕ) (is : Items) → HeldItems names is → at + length (dataOf (partsOf names is)) ≤ size
-      → misplaced true (length names) size (fieldsFrom names at (partsOf names is)) ≡ false
+module _ (floor : ℕ) (names : List Name) where
+  pub fields-placed : (at size : ℕ) (is : Items) → HeldItems names is → at + length (dataOf (partsOf floor names is)) ≤ size
+      → misplaced true (length names) size (fieldsFrom names at (partsOf floor names is)) ≡ false
   unfolding partsOf dataOf fieldsFrom withField misplaced
   fields-placed at size empty h l = refl
   fields-placed at size (item m t is) h l =
-      let k = length-append (encode names t) (dataOf (partsOf names is)) in
-      go m (h .0) (fields-placed (at + length (encode names t)) size is (h .2) (omega arith))
+      let k = length-append (encode floor names t) (dataOf (partsOf floor names is)) in
+      go m (h .0) (fields-placed (at + length (encode floor names t)) size is (h .2) (omega arith))
     where
       rest : List Entry
-      rest = fieldsFrom names (at + length (encode names t)) (partsOf names is)
+      rest = fieldsFrom names (at + length (encode floor names t)) (partsOf floor names is)
 
       go : (m : Mark) → HeldMark names m → misplaced true (length names) size rest ≡ false → misplaced true (length names) size (withField names at m rest) ≡ false
       go element k e = e
       go (live n) k e = rw (le-ltb size at (omega arith), lt-leb (length names) (place n names) k) e
       go replaced k e = e
 
-  pub object-bounded : (is : Items) → HeldItems names is → length names ≤ 256 ^ 4 → length (objectBytes names (partsOf names is)) < 256 ^ 4
-      → let fields = sort names (fieldsFrom names 0 (partsOf names is)) in BoundsObject (idsOf fields) (offsetsOf fields) (length (dataOf (partsOf names is)))
+  pub object-bounded : (is : Items) → HeldItems names is → length names ≤ 256 ^ 4 → length (objectBytes floor names (partsOf floor names is)) < 256 ^ 4
+      → let fields = sort names (fieldsFrom names 0 (partsOf floor names is)) in BoundsObject (idsOf fields) (offsetsOf fields) (length (dataOf (partsOf floor names is)))
   unfolding objectBytes
   object-bounded is k few h =
-      let ps = partsOf names is in
+      let ps = partsOf floor names is in
       let es = fieldsFrom names 0 ps in
       let fields = sort names es in
       let size = length (dataOf ps) in
-      let l = length-append (objectHeader (idsOf fields) (offsetsOf fields) size) (dataOf ps) in
+      let l = length-append (objectHeader floor (idsOf fields) (offsetsOf fields) size) (dataOf ps) in
       let i = length-map fields (λ e. e .id) in
       let o = length-map fields (λ e. e .offset) in
       let n = length-sort names es in
-      let c = object-count (idsOf fields) (offsetsOf fields) size (o ∙ sym i) in
+      let c = object-count floor (idsOf fields) (offsetsOf fields) size (o ∙ sym i) in
       object-bounds names size es (omega arith) (omega arith) few (fields-placed 0 size is k (omega arith))
 
 -- ---- an object's marks are read back from its entries
@@ -174,29 +174,29 @@ abbrev pub treesOf : Items → List Tree
 treesOf empty = []
 treesOf (item m t is) = t ∷ treesOf is
 
-module _ (names : List Name) where
-  pub encode-some : (t : Tree) → 1 ≤ length (encode names t)
+module _ (floor : ℕ) (names : List Name) where
+  pub encode-some : (t : Tree) → 1 ≤ length (encode floor names t)
   unfolding encode scalarBytes listBytes listHeader listHeaderAt objectBytes objectHeader objectHeaderAt
   encode-some (scalar s) = omega arith
   encode-some (nest true is) = omega arith
   encode-some (nest false is) = omega arith
 
   pub marks-read : (at : ℕ) (is js : Items) → FormedItems true is → FormedItems true js → HeldItems names is → HeldItems names js → treesOf is ≡ treesOf js
-      → Incl (fieldsFrom names at (partsOf names is)) (fieldsFrom names at (partsOf names js)) → Incl (fieldsFrom names at (partsOf names js)) (fieldsFrom names at (partsOf names is)) → is ≡ js
+      → Incl (fieldsFrom names at (partsOf floor names is)) (fieldsFrom names at (partsOf floor names js)) → Incl (fieldsFrom names at (partsOf floor names js)) (fieldsFrom names at (partsOf floor names is)) → is ≡ js
   unfolding partsOf fieldsFrom
   marks-read at empty empty f g h k e i o = refl
   marks-read at empty (item n u js) f g h k e i o = absurd (let z : _≡_ {A = ℕ} 0 1 = cc in omega arith)
   marks-read at (item m t is) empty f g h k e i o = absurd (let z : _≡_ {A = ℕ} 0 1 = cc in omega arith)
   marks-read at (item m t is) (item n u js) f g h k e i o =
       let p : t ≡ u = head-eq-of-cons-eq e in
-      let next = at + length (encode names t) in
-      let es = fieldsFrom names next (partsOf names is) in
-      let fs = fieldsFrom names next (partsOf names js) in
+      let next = at + length (encode floor names t) in
+      let es = fieldsFrom names next (partsOf floor names is) in
+      let fs = fieldsFrom names next (partsOf floor names js) in
       let i1 : Incl (withField names at m es) (withField names at n fs) = rw (← p) at i in
       let o1 : Incl (withField names at n fs) (withField names at m es) = rw (← p) at o in
       let full = encode-some t in
-      let les : (x : Entry) → Mem x es → at < x .offset = λ x b. omega (arith, fields-after names next (partsOf names is) x b) in
-      let lfs : (x : Entry) → Mem x fs → at < x .offset = λ x b. omega (arith, fields-after names next (partsOf names js) x b) in
+      let les : (x : Entry) → Mem x es → at < x .offset = λ x b. omega (arith, fields-after names next (partsOf floor names is) x b) in
+      let lfs : (x : Entry) → Mem x fs → at < x .offset = λ x b. omega (arith, fields-after names next (partsOf floor names js) x b) in
       let q : m ≡ n = first-mark names at es fs les lfs m n (f .0) (g .0) (h .0) (k .0) i1 o1 in
       let w : is ≡ js = marks-read next is js (f .2) (g .2) (h .2) (k .2) (tail-eq-of-cons-eq e)
       (λ x b. behind names at n fs x (les x b) (i1 x (before names at m es x b)))
@@ -237,14 +237,14 @@ abbrev mutual
   ApartItems (item m t is) = ApartFrom m is × Apart t × ApartItems is
 
 -- the entries of items that are apart have names that are apart
-module _ (names : List Name) where
-  not-among : (n : Name) (at : ℕ) (is : Items) → HeldItems names is → NotLive n is → (e : Entry) → Mem e (fieldsFrom names at (partsOf names is)) → getD names (e .id) [] ≢ n
+module _ (floor : ℕ) (names : List Name) where
+  not-among : (n : Name) (at : ℕ) (is : Items) → HeldItems names is → NotLive n is → (e : Entry) → Mem e (fieldsFrom names at (partsOf floor names is)) → getD names (e .id) [] ≢ n
   unfolding partsOf fieldsFrom withField
   not-among n at empty h d e m = absurd m
-  not-among n at (item k t is) h d e m = go k (h .0) (d .0) (not-among n (at + length (encode names t)) is (h .2) (d .1) e) m
+  not-among n at (item k t is) h d e m = go k (h .0) (d .0) (not-among n (at + length (encode floor names t)) is (h .2) (d .1) e) m
     where
       rest : List Entry
-      rest = fieldsFrom names (at + length (encode names t)) (partsOf names is)
+      rest = fieldsFrom names (at + length (encode floor names t)) (partsOf floor names is)
 
       go : (k : Mark) → HeldMark names k → k ≢ live n → (Mem e rest → getD names (e .id) [] ≢ n) → Mem e (withField names at k rest) → getD names (e .id) [] ≢ n
       go element l q f m = f m
@@ -252,15 +252,15 @@ module _ (names : List Name) where
       go (live j) l q f (inr m) = f m
       go replaced l q f m = f m
 
-  pub fields-apart : (at : ℕ) (is : Items) → HeldItems names is → ApartItems is → Distinct names (fieldsFrom names at (partsOf names is))
+  pub fields-apart : (at : ℕ) (is : Items) → HeldItems names is → ApartItems is → Distinct names (fieldsFrom names at (partsOf floor names is))
   unfolding partsOf fieldsFrom withField
   fields-apart at empty h d = tt
   fields-apart at (item k t is) h d = go k (h .0) (d .0) (fields-apart next is (h .2) (d .2))
     where
       next : ℕ
-      next = at + length (encode names t)
+      next = at + length (encode floor names t)
 
-      go : (k : Mark) → HeldMark names k → ApartFrom k is → Distinct names (fieldsFrom names next (partsOf names is)) → Distinct names (withField names at k (fieldsFrom names next (partsOf names is)))
+      go : (k : Mark) → HeldMark names k → ApartFrom k is → Distinct names (fieldsFrom names next (partsOf floor names is)) → Distinct names (withField names at k (fieldsFrom names next (partsOf floor names is)))
       go element l q f = f
       go (live j) l q f = ((λ e m. rw (place-here j names l) (not-among j next is (h .2) q e m)), f)
       go replaced l q f = f
@@ -272,78 +272,78 @@ first-low (primitive c) n = omega arith
 first-low short n = omega arith
 
 -- the first byte tells a list from an object, and either from a scalar
-kinds-apart : (names : List Name) (ps qs : List Part) (r s : List ℕ) → listBytes ps ++ r ≡ objectBytes names qs ++ s → ⊥
+kinds-apart : (floor : ℕ) (names : List Name) (ps qs : List Part) (r s : List ℕ) → listBytes floor ps ++ r ≡ objectBytes floor names qs ++ s → ⊥
 unfolding listBytes objectBytes listHeader objectHeader
-kinds-apart names ps qs r s e = list-not-object _ _ _ _ _ _ _ _ _ _ _ _ (simp append-assoc at e)
+kinds-apart floor names ps qs r s e = list-not-object _ _ _ _ _ _ _ _ _ _ _ _ (simp append-assoc at e)
 
-scalar-apart : (names : List Name) (object : Bool) (x : Scalar) (is : Items) (r s : List ℕ) → encode names (nest object is) ++ r ≡ scalarBytes x ++ s → ⊥
+scalar-apart : (floor : ℕ) (names : List Name) (object : Bool) (x : Scalar) (is : Items) (r s : List ℕ) → encode floor names (nest object is) ++ r ≡ scalarBytes x ++ s → ⊥
 unfolding encode scalarBytes listBytes objectBytes listHeader objectHeader
-scalar-apart names true x is r s e = object-not-scalar _ _ _ _ _ _ _ _ _ (first-low (x .storedType) (length (x .payload))) (simp append-assoc at e)
-scalar-apart names false x is r s e = list-not-scalar _ _ _ _ _ _ _ (first-low (x .storedType) (length (x .payload))) (simp append-assoc at e)
+scalar-apart floor names true x is r s e = object-not-scalar _ _ _ _ _ _ _ _ _ (first-low (x .storedType) (length (x .payload))) (simp append-assoc at e)
+scalar-apart floor names false x is r s e = list-not-scalar _ _ _ _ _ _ _ (first-low (x .storedType) (length (x .payload))) (simp append-assoc at e)
 
-module _ (names : List Name) where
+module _ (floor : ℕ) (names : List Name) where
   -- a sound container's items are sound
-  pub inside : {object : Bool} {is : Items} → Sound names (nest object is) → SoundItems names object is
+  pub inside : {object : Bool} {is : Items} → Sound floor names (nest object is) → SoundItems floor names object is
   unfolding encode listBytes objectBytes
   inside {object = true} h = record { formed = h .formed; held = h .held; small = omega (arith, simp length-append at (h .small)) }
   inside {object = false} h = record { formed = h .formed; held = h .held; small = omega (arith, simp length-append at (h .small)) }
 
-  pub first-item : {object : Bool} {m : Mark} {t : Tree} {is : Items} → SoundItems names object (item m t is) → Sound names t
+  pub first-item : {object : Bool} {m : Mark} {t : Tree} {is : Items} → SoundItems floor names object (item m t is) → Sound floor names t
   unfolding partsOf dataOf
   first-item h = record { formed = h .formed .1; held = h .held .1; small = omega (arith, simp length-append at (h .small)) }
 
-  pub other-items : {object : Bool} {m : Mark} {t : Tree} {is : Items} → SoundItems names object (item m t is) → SoundItems names object is
+  pub other-items : {object : Bool} {m : Mark} {t : Tree} {is : Items} → SoundItems floor names object (item m t is) → SoundItems floor names object is
   unfolding partsOf dataOf
   other-items h = record { formed = h .formed .2; held = h .held .2; small = omega (arith, simp length-append at (h .small)) }
 
-  not-empty : (t : Tree) (r : List ℕ) → [] ≡ encode names t ++ r → ⊥
-  not-empty t r e = let f = encode-some names t in omega (arith, simp length-append at (ap length e))
+  not-empty : (t : Tree) (r : List ℕ) → [] ≡ encode floor names t ++ r → ⊥
+  not-empty t r e = let f = encode-some floor names t in omega (arith, simp length-append at (ap length e))
 
-module _ (names : List Name) (few : length names ≤ 256 ^ 4) where
-  nest-split : (object other : Bool) (is js : Items) (r s : List ℕ) → Sound names (nest object is) → Sound names (nest other js)
-      → (dataOf (partsOf names is) ≡ dataOf (partsOf names js) → treesOf is ≡ treesOf js) → encode names (nest object is) ++ r ≡ encode names (nest other js) ++ s
+module _ (floor : ℕ) (names : List Name) (few : length names ≤ 256 ^ 4) where
+  nest-split : (object other : Bool) (is js : Items) (r s : List ℕ) → Sound floor names (nest object is) → Sound floor names (nest other js)
+      → (dataOf (partsOf floor names is) ≡ dataOf (partsOf floor names js) → treesOf is ≡ treesOf js) → encode floor names (nest object is) ++ r ≡ encode floor names (nest other js) ++ s
       → (nest object is ≡ nest other js) × (r ≡ s)
   unfolding encode listBytes objectBytes
   nest-split false false is js r s h k g e =
-      let ps = partsOf names is in
-      let qs = partsOf names js in
-      let t = written-list-split (dataOf ps ++ r) (dataOf qs ++ s) (list-bounded ps (h .small)) (list-bounded qs (k .small)) (simp append-assoc at e) in
+      let ps = partsOf floor names is in
+      let qs = partsOf floor names js in
+      let t = written-list-split floor floor (dataOf ps ++ r) (dataOf qs ++ s) (list-bounded floor ps (h .small)) (list-bounded floor qs (k .small)) (simp append-assoc at e) in
       let d = append-split (dataOf ps) (dataOf qs) r s (t .size) (t .rest) in
       (ap (nest false) (elements-read is js (h .formed) (k .formed) (g (d .0))), d .1)
-  nest-split false true is js r s h k g e = absurd (kinds-apart names (partsOf names is) (partsOf names js) r s e)
-  nest-split true false is js r s h k g e = absurd (kinds-apart names (partsOf names js) (partsOf names is) s r (sym e))
+  nest-split false true is js r s h k g e = absurd (kinds-apart floor names (partsOf floor names is) (partsOf floor names js) r s e)
+  nest-split true false is js r s h k g e = absurd (kinds-apart floor names (partsOf floor names js) (partsOf floor names is) s r (sym e))
   nest-split true true is js r s h k g e =
-      let ps = partsOf names is in
-      let qs = partsOf names js in
+      let ps = partsOf floor names is in
+      let qs = partsOf floor names js in
       let es = fieldsFrom names 0 ps in
       let fs = fieldsFrom names 0 qs in
-      let t = written-object-split (dataOf ps ++ r) (dataOf qs ++ s) (object-bounded names is (h .held) few (h .small)) (object-bounded names js (k .held) few (k .small)) (simp append-assoc at e) in
+      let t = written-object-split floor floor (dataOf ps ++ r) (dataOf qs ++ s) (object-bounded floor names is (h .held) few (h .small)) (object-bounded floor names js (k .held) few (k .small)) (simp append-assoc at e) in
       let d = append-split (dataOf ps) (dataOf qs) r s (t .list .size) (t .list .rest) in
       let q = entries-equal (sort names es) (sort names fs) (t .ids) (t .list .offsets) in (
-        ap (nest true) (marks-read names 0 is js (h .formed) (k .formed) (h .held) (k .held) (g (d .0)) (sort-incl names es fs q) (sort-incl names fs es (sym q))),
+        ap (nest true) (marks-read floor names 0 is js (h .formed) (k .formed) (h .held) (k .held) (g (d .0)) (sort-incl names es fs q) (sort-incl names fs es (sym q))),
         d .1,
       )
 
   mutual
     unfolding encode dataOf
 
-    pub tree-split : (t u : Tree) (r s : List ℕ) → Sound names t → Sound names u → encode names t ++ r ≡ encode names u ++ s → (t ≡ u) × (r ≡ s)
+    pub tree-split : (t u : Tree) (r s : List ℕ) → Sound floor names t → Sound floor names u → encode floor names t ++ r ≡ encode floor names u ++ s → (t ≡ u) × (r ≡ s)
     tree-split (scalar x) (scalar y) r s h k e = let v = scalar-split x y r s (h .formed) (k .formed) e in (ap scalar (v .0), v .1)
-    tree-split (scalar x) (nest other js) r s h k e = absurd (scalar-apart names other x js s r (sym e))
-    tree-split (nest object is) (scalar y) r s h k e = absurd (scalar-apart names object y is r s e)
-    tree-split (nest object is) (nest other js) r s h k e = nest-split object other is js r s h k (λ d. items-split object other is js (inside names h) (inside names k) d) e
+    tree-split (scalar x) (nest other js) r s h k e = absurd (scalar-apart floor names other x js s r (sym e))
+    tree-split (nest object is) (scalar y) r s h k e = absurd (scalar-apart floor names object y is r s e)
+    tree-split (nest object is) (nest other js) r s h k e = nest-split object other is js r s h k (λ d. items-split object other is js (inside floor names h) (inside floor names k) d) e
 
-    pub items-split : (object other : Bool) (is js : Items) → SoundItems names object is → SoundItems names other js → dataOf (partsOf names is) ≡ dataOf (partsOf names js) → treesOf is ≡ treesOf js
+    pub items-split : (object other : Bool) (is js : Items) → SoundItems floor names object is → SoundItems floor names other js → dataOf (partsOf floor names is) ≡ dataOf (partsOf floor names js) → treesOf is ≡ treesOf js
     items-split object other empty empty h k e = refl
-    items-split object other empty (item n u js) h k e = absurd (not-empty names u (dataOf (partsOf names js)) e)
-    items-split object other (item m t is) empty h k e = absurd (not-empty names t (dataOf (partsOf names is)) (sym e))
+    items-split object other empty (item n u js) h k e = absurd (not-empty floor names u (dataOf (partsOf floor names js)) e)
+    items-split object other (item m t is) empty h k e = absurd (not-empty floor names t (dataOf (partsOf floor names is)) (sym e))
     items-split object other (item m t is) (item n u js) h k e =
-        let v = tree-split t u (dataOf (partsOf names is)) (dataOf (partsOf names js)) (first-item names h) (first-item names k) e in
+        let v = tree-split t u (dataOf (partsOf floor names is)) (dataOf (partsOf floor names js)) (first-item floor names h) (first-item floor names k) e in
         let p = v .0 in
-        let w = items-split object other is js (other-items names h) (other-items names k) (v .1) in
+        let w = items-split object other is js (other-items floor names h) (other-items floor names k) (v .1) in
         cc
 
-  pub tree-inj : (t u : Tree) → Sound names t → Sound names u → encode names t ≡ encode names u → t ≡ u
+  pub tree-inj : (t u : Tree) → Sound floor names t → Sound floor names u → encode floor names t ≡ encode floor names u → t ≡ u
   tree-inj t u h k e = tree-split t u [] [] h k (ap (λ b. b ++ []) e) .0
 
 -- ---- names that come later
@@ -368,20 +368,21 @@ module _ (names more : List Name) where
   field-grows at (live n) es h = rw (place-held n names more h)
   field-grows at replaced es h = refl
 
-  pub fields-grow : (at : ℕ) (is : Items) → HeldItems names is → fieldsFrom (names ++ more) at (partsOf names is) ≡ fieldsFrom names at (partsOf names is)
+module _ (floor : ℕ) (names more : List Name) where
+  pub fields-grow : (at : ℕ) (is : Items) → HeldItems names is → fieldsFrom (names ++ more) at (partsOf floor names is) ≡ fieldsFrom names at (partsOf floor names is)
   unfolding partsOf fieldsFrom
   fields-grow at empty h = refl
   fields-grow at (item m t is) h =
-      let next = at + length (encode names t) in
-      ap (withField (names ++ more) at m) (fields-grow next is (h .2)) ∙ field-grows at m (fieldsFrom names next (partsOf names is)) (h .0)
+      let next = at + length (encode floor names t) in
+      ap (withField (names ++ more) at m) (fields-grow next is (h .2)) ∙ field-grows names more at m (fieldsFrom names next (partsOf floor names is)) (h .0)
 
-  pub sorted-grow : (is : Items) → HeldItems names is → sort (names ++ more) (fieldsFrom (names ++ more) 0 (partsOf names is)) ≡ sort names (fieldsFrom names 0 (partsOf names is))
+  pub sorted-grow : (is : Items) → HeldItems names is → sort (names ++ more) (fieldsFrom (names ++ more) 0 (partsOf floor names is)) ≡ sort names (fieldsFrom names 0 (partsOf floor names is))
   sorted-grow is h =
-      let size = length (dataOf (partsOf names is)) in
-      let es = fieldsFrom names 0 (partsOf names is) in
-      ap (sort (names ++ more)) (fields-grow 0 is h) ∙ sort-grows names more es (ids-bounded (length names) size es (fields-placed names 0 size is h (omega arith)))
+      let size = length (dataOf (partsOf floor names is)) in
+      let es = fieldsFrom names 0 (partsOf floor names is) in
+      ap (sort (names ++ more)) (fields-grow 0 is h) ∙ sort-grows names more es (ids-bounded (length names) size es (fields-placed floor names 0 size is h (omega arith)))
 
-  nest-grows : (object : Bool) (is : Items) → HeldItems names is → partsOf (names ++ more) is ≡ partsOf names is → encode (names ++ more) (nest object is) ≡ encode names (nest object is)
+  nest-grows : (object : Bool) (is : Items) → HeldItems names is → partsOf floor (names ++ more) is ≡ partsOf floor names is → encode floor (names ++ more) (nest object is) ≡ encode floor names (nest object is)
   unfolding encode objectBytes
   nest-grows true is h e = rw (e, sorted-grow is h)
   nest-grows false is h e = rw e
@@ -389,16 +390,16 @@ module _ (names more : List Name) where
   mutual
     unfolding encode
 
-    pub encode-grows : (t : Tree) → Held names t → encode (names ++ more) t ≡ encode names t
+    pub encode-grows : (t : Tree) → Held names t → encode floor (names ++ more) t ≡ encode floor names t
     encode-grows (scalar s) h = refl
     encode-grows (nest object is) h = nest-grows object is h (parts-grow is h)
 
-    pub parts-grow : (is : Items) → HeldItems names is → partsOf (names ++ more) is ≡ partsOf names is
+    pub parts-grow : (is : Items) → HeldItems names is → partsOf floor (names ++ more) is ≡ partsOf floor names is
     parts-grow empty h = refl
     parts-grow (item m t is) h =
         let p = encode-grows t (h .1) in
         let q = parts-grow is (h .2) in
         λ i. record { mark = m; bytes = p i } ∷ q i
 
-  pub sound-grows : {t : Tree} → Sound names t → Sound (names ++ more) t
-  sound-grows {t} h = record { formed = h .formed; held = held-grows t (h .held); small = rw (encode-grows t (h .held)) (h .small) }
+  pub sound-grows : {t : Tree} → Sound floor names t → Sound floor (names ++ more) t
+  sound-grows {t} h = record { formed = h .formed; held = held-grows names more t (h .held); small = rw (encode-grows t (h .held)) (h .small) }

@@ -12,7 +12,7 @@ use Rattle.container.specs.declared.Entry.{Entry}
 use Rattle.semantics.specs.declared.ParentEntry.{ParentEntry}
 use Rattle.semantics.specs.declared.ParentEntry.the-variants.{New, Replaced}
 use Rattle.semantics.specs.declared.View.{View}
-use Rattle.semantics.specs.Record.{Storage, Call, register, append, openIn, close, rollBack, uniqueness, finish, isOpen, innerSize, parentSize, innerEntries, parentEntries}
+use Rattle.semantics.specs.Record.{Storage, Call, register, append, openIn, close, rollBack, uniqueness, finish, goodFloor, isOpen, innerSize, parentSize, innerEntries, parentEntries}
 
 -- "a used count exceeds its lent buffer"
 unfoldable pub overUsed : View → Storage → Bool
@@ -31,6 +31,10 @@ grown v =
 -- "over 64 containers are open, or their starting marks fall or exceed the used counts"
 unfoldable pub unchained : View → Bool
 unchained v = not (v .chain && grown v)
+
+-- document 02, A10: "a builder found holding another is 1 at every call"
+unfoldable pub badFloor : View → Bool
+badFloor v = not (goodFloor (v .counts .floor))
 
 -- "a name end that the call reads falls, or the last one (0 without names) isn't the used name bytes"
 unfoldable pub fallenEnds : View → Storage → Bool
@@ -72,4 +76,4 @@ misread v l (finish out) = fallenEnds v l
 
 -- number 1
 abbrev pub damaged : View → Storage → Bool → Bool
-damaged v l misread = overUsed v l || (unchained v || misread)
+damaged v l misread = overUsed v l || (unchained v || (badFloor v || misread))

@@ -52,11 +52,11 @@ total [] = 0
 total (x ∷ xs) = x + total xs
 
 -- the size of the header that closing the innermost puts before `size` bytes
-unfoldable pub headerSize : List Name → List Level → ℕ → ℕ
-headerSize ns [] size = 0
-headerSize ns (l ∷ ls) size =
+unfoldable pub headerSize : ℕ → List Name → List Level → ℕ → ℕ
+headerSize floor ns [] size = 0
+headerSize floor ns (l ∷ ls) size =
     let ids = liveIds ns (l .items) in
-    cond (l .object) (objectHeaderSize (length ids) (largest ids) size) (listHeaderSize (itemCount (l .items)) size)
+    cond (l .object) (objectHeaderSize floor (length ids) (largest ids) size) (listHeaderSize floor (itemCount (l .items)) size)
 
 abbrev pub innerSum : List ℕ → ℕ
 innerSum [] = 0
@@ -67,17 +67,17 @@ outerSums [] = []
 outerSums (x ∷ xs) = xs
 
 -- the sums after an accepted call, h being the history before it
-unfoldable pub sumsEntered : History → List ℕ → Call → List ℕ
-sumsEntered h sums (register n) = sums
-sumsEntered h sums (append nm v) = addTo (length (scalarBytes (scalarOf v))) sums
-sumsEntered h sums (openIn nm k) = 0 ∷ sums
-sumsEntered h sums close = addTo (innerSum sums + headerSize (h .names) (h .levels) (innerSum sums)) (outerSums sums)
-sumsEntered h sums rollBack = outerSums sums
-sumsEntered h sums (uniqueness u) = sums
-sumsEntered h sums (finish out) = sums
+unfoldable pub sumsEntered : ℕ → History → List ℕ → Call → List ℕ
+sumsEntered floor h sums (register n) = sums
+sumsEntered floor h sums (append nm v) = addTo (length (scalarBytes (scalarOf v))) sums
+sumsEntered floor h sums (openIn nm k) = 0 ∷ sums
+sumsEntered floor h sums close = addTo (innerSum sums + headerSize floor (h .names) (h .levels) (innerSum sums)) (outerSums sums)
+sumsEntered floor h sums rollBack = outerSums sums
+sumsEntered floor h sums (uniqueness u) = sums
+sumsEntered floor h sums (finish out) = sums
 
-unfoldable pub ledgerAfter : History → List ℕ → Call → Bool → List ℕ
-ledgerAfter h sums c refused = cond refused sums (sumsEntered h sums c)
+unfoldable pub ledgerAfter : ℕ → History → List ℕ → Call → Bool → List ℕ
+ledgerAfter floor h sums c refused = cond refused sums (sumsEntered floor h sums c)
 
 -- ---- the uniqueness marks: the innermost container's first, the builder's last
 
@@ -108,12 +108,13 @@ pub record Lent : Type 0 where
   pub ends : ℕ
   pub entries : ℕ
 
--- what has come of the calls so far
+-- what has come of the calls so far, and the floor, which no call changes
 pub record Account : Type 0 where
   pub history : History
   pub sums : List ℕ
   pub marks : List Bool
   pub finished : Bool
+  pub floor : ℕ
 
 abbrev pub anyOpen : List Level → Bool
 anyOpen [] = false
@@ -179,14 +180,14 @@ refusalRows a lent (openIn nm k) =
 refusalRows a lent close =
     row 2 (a .finished)
     ∷ (row 3 (not (anyOpen (a .history .levels)))
-    ∷ (row 14 (noBytesFree lent (a .sums) (headerSize (a .history .names) (a .history .levels) (innerSum (a .sums)))) ∷ []))
+    ∷ (row 14 (noBytesFree lent (a .sums) (headerSize (a .floor) (a .history .names) (a .history .levels) (innerSum (a .sums)))) ∷ []))
 refusalRows a lent rollBack = row 2 (a .finished) ∷ (row 3 (not (anyOpen (a .history .levels))) ∷ [])
 refusalRows a lent (uniqueness u) = row 2 (a .finished) ∷ (row 3 (not (objectInner (a .history .levels))) ∷ [])
 refusalRows a lent (finish out) =
     row 2 (a .finished)
     ∷ (row 4 (anyOpen (a .history .levels))
     ∷ (row 15 (eqb (total (a .sums)) 0)
-    ∷ (row 16 (not (leb (sizeOf (length (a .history .names)) (length (joined (a .history .names)))) (counted (length out)))) ∷ [])))
+    ∷ (row 16 (not (leb (sizeOf (a .floor) (length (a .history .names)) (length (joined (a .history .names)))) (counted (length out)))) ∷ [])))
 
 unfoldable pub refusalOf : Account → Lent → Call → ℕ
 refusalOf a lent c = first (refusalRows a lent c)

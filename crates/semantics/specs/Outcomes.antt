@@ -88,7 +88,8 @@ outcomes =
     (0x11 ∷ 0x02 ∷ 0x00 ∷ 0x01 ∷ 0x02 ∷ 0x62 ∷ 0x63 ∷ [])
     ∷ [])))))))))))
 
--- a fresh builder of a uniqueness mark and storage that are not blank, and have room for the largest outcome and no more
+-- a fresh builder of a uniqueness mark, at floor 1 (document 02, A10: "The outcomes .. stand at floor 1"), and storage that are not blank, and
+-- have room for the largest outcome and no more
 abbrev pub junkContainer : Container
 junkContainer = record { value = 9; names = 8; text = 7; entries = 6; parent = Replaced 5 4; object = true; unique = true }
 
@@ -98,14 +99,14 @@ start u =
       builder =
           record {
             containers = replicate 64 junkContainer;
-            counts = record { value = 0; entries = 0; depth = 0; dictionary = dictionary.fresh; unique = u; finished = false };
+            counts = record { value = 0; entries = 0; depth = 0; dictionary = dictionary.fresh; unique = u; finished = false; floor = 1 };
           };
       storage = storageOf (replicate 11 0xee) (replicate 2 0xee) (replicate 2 99) (replicate 5 99);
     }
 
 -- the bytes of a kept record's top value
 unfoldable pub encoded : Kept → List ℕ
-encoded k = elim (k .top) [ none ↦ [] | some t ↦ encode (k .names) t ]
+encoded k = elim (k .top) [ none ↦ [] | some t ↦ encode 1 (k .names) t ]
 
 unfoldable pub sameNames : List Name → List Name → Bool
 sameNames [] [] = true
@@ -128,7 +129,7 @@ gives u o =
     let s = start u in
     let k = kept s cs in
     (same (valueBytes (run s cs)) (o .value) && same (dictionaryBytes s cs) (o .dictionary))
-    && ((same (encoded k) (o .value) && sameNames (runNames s cs) (k .names)) && accounted (noAccount u) s cs)
+    && ((same (encoded k) (o .value) && sameNames (runNames s cs) (k .names)) && accounted (noAccount u 1) s cs)
 
 -- under both marks, save where "uniqueness off" is said
 unfoldable pub allGive : List Case → Bool

@@ -90,6 +90,10 @@ rising ks (suc d) = under (containerAt ks d) (containerAt ks (suc d)) && rising 
 unfoldable pub chained : List Container → ℕ → Bool
 chained ks d = leb d 64 && rising ks (d - 1)
 
+-- document 02, A10: "A fresh builder takes a floor of 1 to 4 bytes"
+abbrev pub goodFloor : ℕ → Bool
+goodFloor floor = leb 1 floor && leb floor 4
+
 -- ---- what a call sees of the record
 
 abbrev pub viewOf : Builder → View

@@ -11,13 +11,13 @@ use Rattle.metadata.specs.Bytes as bytes
 use Rattle.metadata.specs.Calls as dictionary
 use Rattle.semantics.specs.declared.Builder.{Builder}
 use Rattle.semantics.specs.declared.Counts.{Counts}
-use Rattle.semantics.specs.Record.{Storage, State, Call, register, append, openIn, close, rollBack, uniqueness, finish}
+use Rattle.semantics.specs.Record.{Storage, State, goodFloor, Call, register, append, openIn, close, rollBack, uniqueness, finish}
 use Rattle.semantics.specs.Step.{step}
 use Rattle.semantics.specs.Ledger.{Account, Lent, noLedger, ledgerAfter, marksAfter}
 use Rattle.semantics.specs.History.{History, noHistory, fed, Kept, keptOf}
 
 -- document 01, "A fresh builder: nothing used or open, .. no finish accepted, either uniqueness mark"; since document 02's A3 it has no
--- sorted mark
+-- sorted mark, and by A10 "A fresh builder takes a floor of 1 to 4 bytes"
 pub record Fresh (b : Builder) : Type 0 where
   pub value : b .counts .value ≡ 0
   pub entries : b .counts .entries ≡ 0
@@ -25,10 +25,15 @@ pub record Fresh (b : Builder) : Type 0 where
   pub dictionary : b .counts .dictionary ≡ dictionary.fresh
   pub finished : b .counts .finished ≡ false
   pub containers : length (b .containers) ≡ 64
+  pub floor : goodFloor (b .counts .floor) ≡ true
 
 -- the counts that a maker gives
-abbrev pub freshCounts : Bool → Counts
-freshCounts u = record { value = 0; entries = 0; depth = 0; dictionary = dictionary.fresh; unique = u; finished = false }
+abbrev pub freshCounts : Bool → ℕ → Counts
+freshCounts u floor = record { value = 0; entries = 0; depth = 0; dictionary = dictionary.fresh; unique = u; finished = false; floor = floor }
+
+-- the floor of a builder
+abbrev pub floorOf : State → ℕ
+floorOf s = s .builder .counts .floor
 
 -- "Each call gets the builder that the last one returned or left, and the same storage as it was left"
 unfoldable pub run : State → List Call → State
@@ -97,9 +102,9 @@ historyOf s cs = historyFrom noHistory s cs
 unfoldable pub kept : State → List Call → Kept
 kept s cs = keptOf (historyOf s cs)
 
--- the dictionary of the kept names
+-- the dictionary of the kept names, at the run's floor
 abbrev pub keptDictionary : State → List Call → List ℕ
-keptDictionary s cs = bytes.dictionary (kept s cs .names)
+keptDictionary s cs = bytes.dictionary (floorOf s) (kept s cs .names)
 
 -- the accepted finish of a run: it is one of the calls, "writes only the dictionary", and nothing changes after it
 pub record AcceptedFinish (s : State) (cs : List Call) : Type 0 where
@@ -116,16 +121,17 @@ pub record AcceptedFinish (s : State) (cs : List Call) : Type 0 where
 
 -- ---- the account of the calls so far, fed whether each was refused
 
-abbrev pub noAccount : Bool → Account
-noAccount unique = record { history = noHistory; sums = noLedger; marks = unique ∷ []; finished = false }
+abbrev pub noAccount : Bool → ℕ → Account
+noAccount unique floor = record { history = noHistory; sums = noLedger; marks = unique ∷ []; finished = false; floor = floor }
 
 unfoldable pub accountAfter : Account → Call → Bool → Account
 accountAfter a c refused =
     record {
       history = fed (a .history) c refused;
-      sums = ledgerAfter (a .history) (a .sums) c refused;
+      sums = ledgerAfter (a .floor) (a .history) (a .sums) c refused;
       marks = marksAfter (a .marks) c refused;
       finished = a .finished || (isFinish c && not refused);
+      floor = a .floor;
     }
 
 unfoldable pub accountFrom : Account → State → List Call → Account
@@ -134,7 +140,7 @@ accountFrom a s (c ∷ cs) = accountFrom (accountAfter a c (refused s c)) (step 
 
 -- "From a fresh builder on ..", of "either uniqueness mark"
 unfoldable pub accountOf : State → List Call → Account
-accountOf s cs = accountFrom (noAccount (s .builder .counts .unique)) s cs
+accountOf s cs = accountFrom (noAccount (s .builder .counts .unique) (floorOf s)) s cs
 
 abbrev pub lentBy : Storage → Lent
 lentBy l = record { value = length (l .value); text = length (l .text); ends = length (l .ends); entries = length (l .entries) }

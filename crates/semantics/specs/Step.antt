@@ -69,7 +69,7 @@ pub record Left : Type 0 where
 
 abbrev pub withCounts : Counts → ℕ → ℕ → ℕ → MetadataBuilder → Counts
 withCounts c value entries depth dictionary =
-    record { value = value; entries = entries; depth = depth; dictionary = dictionary; unique = c .unique; finished = c .finished }
+    record { value = value; entries = entries; depth = depth; dictionary = dictionary; unique = c .unique; finished = c .finished; floor = c .floor }
 
 -- document 02, A1: "A new name belongs to the innermost open container and goes when that one is rolled back": it comes behind that one's
 -- starting mark of names, which stays
@@ -152,11 +152,12 @@ unfoldable pub withUnique : Container → Bool → Container
 withUnique k u = record { value = k .value; names = k .names; text = k .text; entries = k .entries; parent = k .parent; object = k .object; unique = u }
 
 unfoldable pub finished : Counts → Counts
-finished c = record { value = c .value; entries = c .entries; depth = c .depth; dictionary = c .dictionary; unique = c .unique; finished = true }
+finished c =
+    record { value = c .value; entries = c .entries; depth = c .depth; dictionary = c .dictionary; unique = c .unique; finished = true; floor = c .floor }
 
 -- "finish writes only the dictionary"
 unfoldable pub dictionaryOf : View → Storage → List ℕ
-dictionaryOf v l = dictionary (namesHeld v l)
+dictionaryOf v l = dictionary (v .counts .floor) (namesHeld v l)
 
 abbrev pub carriedOut : View → Storage → Call → Left
 carriedOut v l (register n) = registered v l n

@@ -17,7 +17,7 @@ use Rattle.container.specs.Entries.{idsOf, offsetsOf, roomFor, seek}
 use Rattle.container.specs.Layout.{listHeader, objectHeader}
 use Rattle.container.specs.Sort.{sort}
 use Rattle.semantics.specs.declared.View.{View}
-use Rattle.semantics.specs.Record.{Storage, Scalars, fixed, bytes, uuid, Call, register, append, openIn, close, rollBack, uniqueness, finish, scalarOf, isOpen, inObject, innerSize, innerEntries, namesHeld, uniqueNow}
+use Rattle.semantics.specs.Record.{Storage, Scalars, fixed, bytes, uuid, Call, register, append, openIn, close, rollBack, uniqueness, finish, scalarOf, goodFloor, isOpen, inObject, innerSize, innerEntries, namesHeld, uniqueNow}
 use Rattle.semantics.specs.Damage.{misreadBy, misread, damaged}
 
 -- ---- the rows' tests
@@ -81,7 +81,8 @@ unfoldable pub header : View → Storage → List ℕ
 header v l =
     let es = innerEntries v l in
     let sorted = sort (namesHeld v l) es in
-    cond (v .inner .object) (objectHeader (idsOf sorted) (offsetsOf sorted) (innerSize v)) (listHeader (offsetsOf es) (innerSize v))
+    let floor = v .counts .floor in
+    cond (v .inner .object) (objectHeader floor (idsOf sorted) (offsetsOf sorted) (innerSize v)) (listHeader floor (offsetsOf es) (innerSize v))
 
 -- ---- the table
 
@@ -124,7 +125,11 @@ rows v l (finish out) =
     ∷ (row 2 (v .counts .finished)
     ∷ (row 4 (isOpen v)
     ∷ (row 15 (eqb (v .counts .value) 0)
-    ∷ (row 16 (not (leb (sizeOf (fieldNames (v .counts .dictionary)) (textSize (v .counts .dictionary))) (counted (length out)))) ∷ []))))
+    ∷ (row 16 (not (leb (sizeOf (v .counts .floor) (fieldNames (v .counts .dictionary)) (textSize (v .counts .dictionary))) (counted (length out)))) ∷ []))))
+
+-- document 02, A10, when a builder is made: "It refuses, with 24 .., any other floor"
+abbrev pub makeRows : ℕ → List Row
+makeRows floor = row 24 (not (goodFloor floor)) ∷ []
 
 -- a call's number
 unfoldable pub numberOf : View → Storage → Call → ℕ

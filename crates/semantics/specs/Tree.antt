@@ -50,21 +50,21 @@ unfoldable pub fieldsFrom : List Name → ℕ → List Part → List Entry
 fieldsFrom names at [] = []
 fieldsFrom names at (p ∷ ps) = withField names at (p .mark) (fieldsFrom names (at + length (p .bytes)) ps)
 
--- a list's and an object's bytes
-unfoldable pub listBytes : List Part → List ℕ
-listBytes ps = listHeader (startsFrom 0 ps) (length (dataOf ps)) ++ dataOf ps
+-- a list's and an object's bytes, by the floor under their widths
+unfoldable pub listBytes : ℕ → List Part → List ℕ
+listBytes floor ps = listHeader floor (startsFrom 0 ps) (length (dataOf ps)) ++ dataOf ps
 
-unfoldable pub objectBytes : List Name → List Part → List ℕ
-objectBytes names ps =
+unfoldable pub objectBytes : ℕ → List Name → List Part → List ℕ
+objectBytes floor names ps =
     let fields = sort names (fieldsFrom names 0 ps) in
-    objectHeader (idsOf fields) (offsetsOf fields) (length (dataOf ps)) ++ dataOf ps
+    objectHeader floor (idsOf fields) (offsetsOf fields) (length (dataOf ps)) ++ dataOf ps
 
 -- the bytes of a tree, where the names are held in this order
 unfoldable mutual
-  pub encode : List Name → Tree → List ℕ
-  encode names (scalar s) = scalarBytes s
-  encode names (nest object is) = cond object (objectBytes names (partsOf names is)) (listBytes (partsOf names is))
+  pub encode : ℕ → List Name → Tree → List ℕ
+  encode floor names (scalar s) = scalarBytes s
+  encode floor names (nest object is) = cond object (objectBytes floor names (partsOf floor names is)) (listBytes floor (partsOf floor names is))
 
-  pub partsOf : List Name → Items → List Part
-  partsOf names empty = []
-  partsOf names (item m t is) = record { mark = m; bytes = encode names t } ∷ partsOf names is
+  pub partsOf : ℕ → List Name → Items → List Part
+  partsOf floor names empty = []
+  partsOf floor names (item m t is) = record { mark = m; bytes = encode floor names t } ∷ partsOf floor names is

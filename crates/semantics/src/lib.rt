@@ -20,7 +20,7 @@
 // src/builder/list.rs and src/builder/object.rs (see NOTICE). Changed: written in Rattle, one record with 64 containers.
 use metadata::MetadataBuilder;
 ghost use mathlib.Core.Path.{_≡_};
-ghost use Rattle.semantics.specs.Record.{noContainer};
+ghost use Rattle.semantics.specs.Record.{goodFloor, noContainer};
 ghost use Rattle.semantics.specs.Run.{freshCounts};
 
 // How a container's entry in its parent came about, read when the container is rolled back.
@@ -40,7 +40,8 @@ pub struct Container {
     pub unique: bool,
 }
 
-// The used counts, the open containers' number, the dictionary's record, and the marks.
+// The used counts, the open containers' number, the dictionary's record, the marks, and the floor: how many bytes offsets, ids and
+// dictionary numbers take at least.
 pub struct Counts {
     pub value: usize,
     pub entries: usize,
@@ -48,6 +49,7 @@ pub struct Counts {
     pub dictionary: MetadataBuilder,
     pub unique: bool,
     pub finished: bool,
+    pub floor: usize,
 }
 
 pub struct Builder {
@@ -79,9 +81,16 @@ pub fn no_container() -> Container
     }
 }
 
+// Is this a floor that a builder may have, 1 to 4 bytes?
+pub fn good_floor(floor: usize) -> bool
+    ensures { λ r. ⌜ r ≡ goodFloor floor ⌝ }
+{
+    (1 <= floor) & (floor <= 4)
+}
+
 // The counts of a fresh builder; children inherit the uniqueness mark.
-pub fn fresh_counts(unique: bool) -> Counts
-    ensures { λ r. ⌜ r ≡ freshCounts unique ⌝ }
+pub fn fresh_counts(unique: bool, floor: usize) -> Counts
+    ensures { λ r. ⌜ r ≡ freshCounts unique floor ⌝ }
 {
     let m = metadata::new();
     Counts {
@@ -91,5 +100,6 @@ pub fn fresh_counts(unique: bool) -> Counts
         dictionary: m,
         unique: unique,
         finished: false,
+        floor: floor,
     }
 }

@@ -97,7 +97,7 @@ fn unnamed() {
 // "never used" where the bytes written are those of such a dictionary, else "used".
 fn told(m: MetadataBuilder, text: &[u8], ends: &[usize]) {
     let mut out = [0u8; 4];
-    match finish(m, text, ends, &mut out) {
+    match finish(m, 1, text, ends, &mut out) {
         Finished::Written(n) => {
             if is_never_used(front(&out, n)) {
                 line(b"never used", m, text, ends);
@@ -125,7 +125,7 @@ fn with(m: MetadataBuilder, text: &mut [u8], ends: &mut [usize], name: &[u8]) ->
 fn line(label: &[u8], m: MetadataBuilder, text: &[u8], ends: &[usize]) {
     print::text(label);
     let mut out = [0u8; 65600];
-    match finish(m, text, ends, &mut out) {
+    match finish(m, 1, text, ends, &mut out) {
         Finished::Written(n) => {
             print::text(b": ");
             io::print_decimal(STDOUT_FILENO, n as u64);

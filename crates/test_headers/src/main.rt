@@ -112,6 +112,7 @@ fn frame(used: usize, to: usize) -> Frame {
         used,
         from: 0,
         to,
+        floor: 1,
     }
 }
 

@@ -1,14 +1,17 @@
 // The sample, from standard input: bytes in hexadecimal, in fields with a comma or a line end behind each.
+use crate::parse::word;
 use libc::STDIN_FILENO;
 
-// A script's first line: its mark, how many calls it has, and the storage that it is lent.
+// A script's first line: its mark, the number expected of its maker, how many calls it has, the storage that it is lent, and its floor.
 pub struct Start {
     pub unique: bool,
+    pub number: u8,
     pub calls: usize,
     pub value: usize,
     pub text: usize,
     pub ends: usize,
     pub entries: usize,
+    pub floor: usize,
 }
 
 // A line's first field: the call, its argument, the number expected, whether a name is given, the size of the output or the place
@@ -32,18 +35,24 @@ pub fn read_count() -> usize {
 
 // Where a byte is missing, too large a storage.
 pub fn read_start() -> Start {
-    let mut b = [0u8; 11];
-    if !field(&mut b, 11) {
-        b[3] = 255;
+    let mut b = [0u8; 20];
+    if !field(&mut b, 20) {
+        b[4] = 255;
     }
     Start {
         unique: b[0] == 1,
-        calls: two(b[1], b[2]),
-        value: two(b[3], b[4]),
-        text: two(b[5], b[6]),
-        ends: two(b[7], b[8]),
-        entries: two(b[9], b[10]),
+        number: b[1],
+        calls: two(b[2], b[3]),
+        value: two(b[4], b[5]),
+        text: two(b[6], b[7]),
+        ends: two(b[8], b[9]),
+        entries: two(b[10], b[11]),
+        floor: floor_of(&b),
     }
+}
+
+fn floor_of(b: &[u8; 20]) -> usize {
+    word(b, 12) as usize
 }
 
 // Where a byte is missing, there is no such call or too large an output is asked for, too large an operand.

@@ -8,7 +8,8 @@ mod input;
 mod parse;
 mod poke;
 
-use builder::new;
+use builder::Answer;
+use builder::with_floor;
 use builder_mut::lend;
 use compare::Tally;
 use compare::answered;
@@ -20,6 +21,7 @@ use compare::started;
 use compare::used;
 use encoding::slices::min;
 use input::Header;
+use input::Start;
 use input::fields;
 use input::read_count;
 use input::read_header;
@@ -92,8 +94,7 @@ fn script(
         return malformed(t);
     }
     run(
-        started(t),
-        new(s.unique),
+        begun(t, s),
         s.calls,
         &mut value[0..v],
         &mut text[0..x],
@@ -102,19 +103,32 @@ fn script(
     )
 }
 
+fn begun(t: Tally, s: Start) -> Replay {
+    let m = with_floor(s.unique, s.floor);
+    let a = m.answer;
+    let b = m.builder;
+    Replay {
+        builder: b,
+        tally: answered(started(t), s.number, number_of(a)),
+    }
+}
+
+fn number_of(a: Answer) -> u8 {
+    match a {
+        Answer::Done => 0,
+        Answer::Refused(n) => n,
+    }
+}
+
 fn run(
-    t: Tally,
-    b: Builder,
+    begun: Replay,
     n: usize,
     value: &mut [u8],
     text: &mut [u8],
     ends: &mut [usize],
     entries: &mut [usize],
 ) -> Tally {
-    let mut r = Replay {
-        builder: b,
-        tally: t,
-    };
+    let mut r = begun;
     let mut i = 0;
     while i < n {
         r = next(r, value, text, ends, entries);

@@ -23,7 +23,7 @@ pub fn altered(b: Builder, h: Header, operand: &[u8]) -> Builder {
     let c = b.counts;
     let cs = b.containers;
     match which {
-        0..=7 => Builder {
+        0..=7 | 20 => Builder {
             containers: cs,
             counts: counts(c, which, n),
         },
@@ -43,6 +43,7 @@ fn counts(before: Counts, which: u8, n: usize) -> Counts {
         4 => c.depth = n,
         5 => c.unique = n == 1,
         7 => c.finished = n == 1,
+        20 => c.floor = n,
         // The record has no sorted mark to set.
         _ => c.dictionary = m,
     }

@@ -8,8 +8,9 @@ use variant_writer::{Storage, VariantBuilder};
 const COUNTS: [(&str, usize); 5] = [("value_used", 0), ("names_used", 3), ("namebytes_used", 4), ("entries_used", 1), ("open", 2)];
 const UNIQUE_MARK: usize = 5;
 const FINISHED: usize = 6;
+const FLOOR: usize = 7;
 /// Where the containers begin.
-const CONTAINERS: usize = 7;
+const CONTAINERS: usize = 8;
 const VALUE: usize = 0;
 const OPEN: usize = 2;
 const NAMES: usize = 3;
@@ -27,7 +28,7 @@ fn place(i: usize) -> usize {
 pub fn poke(b: &mut VariantBuilder, words: &[&str]) -> Expected<()> {
     let (&what, rest) = words.split_first().ok_or("what to poke")?;
     let at = |table: &[(&str, usize)]| table.iter().find(|(key, _)| *key == what).map(|(_, at)| *at);
-    if let Some(at) = at(&COUNTS) {
+    if let Some(at) = at(&COUNTS).or((what == "floor").then_some(FLOOR)) {
         b.words_mut()[at] = number(rest, 0)?;
     } else if let "unique" | "finished" = what {
         b.words_mut()[if what == "unique" { UNIQUE_MARK } else { FINISHED }] = mark(rest, 0)?;
@@ -131,7 +132,7 @@ pub fn dump(b: &mut VariantBuilder, out: &mut String) {
         write!(out, " {key}={}", words[at]).unwrap_or_default();
     }
     let flag = |at: usize| u8::from(words[at] != 0);
-    write!(out, " unique={} sorted=- finished={}", flag(UNIQUE_MARK), flag(FINISHED)).unwrap_or_default();
+    write!(out, " unique={} sorted=- finished={} floor={}", flag(UNIQUE_MARK), flag(FINISHED), words[FLOOR]).unwrap_or_default();
     for i in 0..words[OPEN].min(64) {
         dump_container(i, &words[place(i)..place(i + 1)], out);
     }
@@ -161,7 +162,7 @@ fn broken(words: &[usize], s: &Storage) -> bool {
     let bytes = |n: usize| n.min(u32::MAX as usize);
     let lent = [bytes(s.value.len()), s.ends.len(), bytes(s.text.len()), s.entries.len() / 2];
     let exceeds = |low: &[usize], high: &[usize]| low.iter().zip(high).any(|(l, h)| l > h);
-    if exceeds(&used, &lent) || words[OPEN] > 64 {
+    if exceeds(&used, &lent) || words[OPEN] > 64 || !(1..=4).contains(&words[FLOOR]) {
         return true;
     }
     let mut low = [0; 4];

@@ -5,7 +5,7 @@ use std::fmt::Write;
 use variant_writer::{listing, Refusal, VariantBuilder};
 
 const VERBS: &str = "a call: new, register, append, open, close, rollback, unique, finish, poke, dump or dumpvalue";
-const SETTINGS: [&str; 6] = ["unique", "value", "namebytes", "names", "entries", "fill"];
+const SETTINGS: [&str; 7] = ["unique", "value", "namebytes", "names", "entries", "fill", "floor"];
 
 pub struct Session {
     builder: Option<VariantBuilder<'static>>,
@@ -22,55 +22,74 @@ impl Session {
         let said = line.split('#').next().unwrap_or("");
         let words: Vec<&str> = said.split(blank).filter(|word| !word.is_empty()).collect();
         let Some((&verb, rest)) = words.split_first() else { return Ok(()) };
-        if verb == "new" {
-            self.start(settings(rest, &SETTINGS, [0, 4096, 1024, 64, 256, 0])?)?;
-            out.push_str("new\n");
-            return Ok(());
+        match (verb, &mut self.builder) {
+            ("new", _) => self.start(settings(rest, &SETTINGS, [0, 4096, 1024, 64, 256, 0, 1])?, out),
+            (_, Some(builder)) => answer_on(builder, verb, rest, self.listing, out),
+            (_, None) => answer_without(verb, rest, out),
         }
-        let builder = self.builder.as_mut().ok_or("a `new` before any other call")?;
-        match (verb, rest) {
-            ("finish", _) => finish(builder, rest, self.listing, out)?,
-            ("poke", _) => {
-                poke::poke(builder, rest)?;
-                out.push_str("poked\n");
-            }
-            ("dump", []) => poke::dump(builder, out),
-            ("dumpvalue", []) => {
-                out.push_str("value ");
-                hex(builder.storage_mut().value, out);
-                out.push('\n');
-            }
-            _ => word(call(builder, verb, rest)?, out),
-        }
-        Ok(())
     }
 
-    /// A fresh builder: over the same storage where its sizes are these, all of it filled.
-    fn start(&mut self, [unique, value, text, names, entries, fill]: [usize; 6]) -> Expected<()> {
-        let old = self.builder.as_mut().map(|b| b.storage_mut());
-        match old.filter(|s| [s.value.len(), s.text.len(), s.ends.len(), s.entries.len()] == [value, text, names, entries]) {
-            Some(s) => {
-                s.value.fill(fill as u8);
-                s.text.fill(fill as u8);
-                s.ends.fill(fill);
-                s.entries.fill(fill);
+    /// A fresh builder, over storage all filled; a refused one leaves none.
+    fn start(&mut self, [unique, value, text, names, entries, fill, floor]: [usize; 7], out: &mut String) -> Expected<()> {
+        let mut builder = lent(self.builder.take(), [value, text, names, entries], fill)?;
+        builder.words_mut().fill(0);
+        match builder.reset_with_floor(unique != 0, floor) {
+            Ok(()) => {
+                self.builder = Some(builder);
+                out.push_str("new\n");
             }
-            None => {
-                self.builder = None;
-                if ![value, text].into_iter().all(room::<u8>) || ![names, entries].into_iter().all(room::<usize>) {
-                    return Err("storage of a size that memory has".into());
-                }
-                let byte = fill as u8;
-                let fresh = VariantBuilder::lend(vec![byte; value], vec![byte; text], vec![fill; names], vec![fill; entries]);
-                self.builder = Some(fresh);
-            }
-        }
-        if let Some(b) = &mut self.builder {
-            b.words_mut().fill(0);
-            b.reset(unique != 0);
+            refused => word(refused, out),
         }
         Ok(())
     }
+}
+
+/// A builder over storage of these sizes, filled: the old one's where it has them.
+fn lent(old: Option<VariantBuilder<'static>>, sizes: [usize; 4], fill: usize) -> Expected<VariantBuilder<'static>> {
+    let (byte, [value, text, names, entries]) = (fill as u8, sizes);
+    if let Some(mut builder) = old {
+        let s = builder.storage_mut();
+        if [s.value.len(), s.text.len(), s.ends.len(), s.entries.len()] == sizes {
+            s.value.fill(byte);
+            s.text.fill(byte);
+            s.ends.fill(fill);
+            s.entries.fill(fill);
+            return Ok(builder);
+        }
+    }
+    if ![value, text].into_iter().all(room::<u8>) || ![names, entries].into_iter().all(room::<usize>) {
+        return Err("storage of a size that memory has".into());
+    }
+    Ok(VariantBuilder::lend(vec![byte; value], vec![byte; text], vec![fill; names], vec![fill; entries]))
+}
+
+/// The answer to a line but `new`: its call, poke or dump made on the builder.
+fn answer_on(builder: &mut VariantBuilder, verb: &str, rest: &[&str], listing: bool, out: &mut String) -> Expected<()> {
+    match (verb, rest) {
+        ("finish", _) => finish(builder, rest, listing, out)?,
+        ("poke", _) => {
+            poke::poke(builder, rest)?;
+            out.push_str("poked\n");
+        }
+        ("dump", []) => poke::dump(builder, out),
+        ("dumpvalue", []) => {
+            out.push_str("value ");
+            hex(builder.storage_mut().value, out);
+            out.push('\n');
+        }
+        _ => word(call(builder, verb, rest)?, out),
+    }
+    Ok(())
+}
+
+/// The same where there is no builder. A line that is no call is found out on one without storage; of a poke, which may fit or not by
+/// the storage, nothing is read.
+fn answer_without(verb: &str, rest: &[&str], out: &mut String) -> Expected<()> {
+    if verb != "poke" || rest.is_empty() {
+        answer_on(&mut VariantBuilder::with_capacity(0, 0, 0, 0), verb, rest, false, &mut String::new())?;
+    }
+    out.push_str("no builder\n");
+    Ok(())
 }
 
 /// What parts words, as Python has it: white space, and the four separators of ASCII.

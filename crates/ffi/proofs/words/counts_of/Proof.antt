@@ -6,8 +6,9 @@ use Rattle.ffi.proofs.words.counts_of.Tie as tie
 returns : tie.Need-returns
 unfolding countsOf
 returns c =
-    let m = c .before .before .before .before .before .before .before in
-    rw (m .from-parts .ensures, c .before .before .flag .ensures, c .flag2 .ensures)
+    let f = c .before in
+    let m = f .before .before .before .before .before .before .before in
+    rw (m .from-parts .ensures, f .before .before .flag .ensures, f .flag2 .ensures)
 
 pub counts-of-spec : {M : Type 1} → statement M
 counts-of-spec =
@@ -23,4 +24,5 @@ counts-of-spec =
     (λ c κs. search needs)
     (λ c. search needs)
     (λ c κs. search needs)
+    (λ c. search needs)
     returns)

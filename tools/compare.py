@@ -10,10 +10,11 @@ requests of document 02 by which the model answers, as its --with does; without 
 (landed.py), by which WRITER answers, too.
 
 Every answer of WRITER must be the model's. ORACLE gets the same runs but for altered storage, without the calls
-that are refused with a number other than 6, 10 and 15 (a refusal changes nothing; so none of 17 and above) and
-without dumps; each of its answers must be WRITER's. Left out is a run with an accepted scalar that the Rust's types
-don't hold, a name registered inside a container, a floor other than 1, a mark set or returned to. From an accepted roll back
-on the dictionary's sorted mark is not compared with the Rust, which keeps another one there; in all other runs it is.
+that are refused with a number other than 6, 10 and 15 (a refusal changes nothing; so none of 17 and above), without those
+that need no builder and without dumps; an accepted date goes as the scalar that is stored for it. Each of its answers must be
+WRITER's. Left out is a run with an accepted scalar that the Rust's types don't hold, a name registered inside a container, a
+floor other than 1, a mark set or returned to. From an accepted roll back on the dictionary's sorted mark is not compared with
+the Rust, which keeps another one there; in all other runs it is.
 --sample writes scripts.txt and answers.txt: short runs of calls that the Rust answers, chosen by document 01 alone, and its
 answers, but for the mark where it is not compared: that one is the model's, by what has landed.
 """
@@ -52,13 +53,20 @@ def ask(program, lines):
     return answers + [f"fell with {done.returncode}: {done.stderr.strip()[-200:]}"] * (done.returncode != 0)
 
 
-def beyond_rust(call, depth):
+def rust_line(model, line, call):
+    """The line as the Rust is given it: an accepted date is the scalar that is stored for it."""
+    if call[0] != "append" or model.converted(call[2])[1] == call[2]:
+        return line
+    return model.format_call((*call[:2], model.converted(call[2])[1]))
+
+
+def beyond_rust(model, call, depth):
     """Whether an accepted call, with so many containers open, is one that the Rust does not have."""
     if call[0] == "new":
         return call[1].get("floor", 1) != 1
     if call[0] == "register":
         return depth > 0
-    return call[0] in ("mark", "return") or call[0] == "append" and not scripts.rust_holds(call[2])
+    return call[0] in ("mark", "return") or call[0] == "append" and not scripts.rust_holds(model, call[2])
 
 
 def unmarked(calls, answers):
@@ -77,14 +85,16 @@ def for_oracle(model, calls, answers):
     """The places of the lines that the Rust answers, or None where the run is left out."""
     places, depth = [], 0
     for i, (call, answer) in enumerate(zip(calls, answers)):
-        held = call[0] != "append" or scripts.rust_holds(call[2])
+        if call[0] in scripts.BESIDE:
+            continue
+        held = call[0] != "append" or scripts.rust_holds(model, call[2])
         if call[0] == "new" or answer.startswith("ok"):
-            if beyond_rust(call, depth):
+            if beyond_rust(model, call, depth):
                 return None
             places.append(i)
             depth += OPENED.get(call[0], 0)
         elif answer in ("refused 6", "refused 10", "refused 15"):
-            # 6 comes before 7 and 8: the Rust cannot say what those would refuse
+            # 6 comes before 7, 17 and 8: the Rust cannot say what those would refuse
             if held and (call[0] != "append" or not model.scalar_refusal(call[2])):
                 places.append(i)
     return places
@@ -105,7 +115,8 @@ def differs(model, writer, oracle, lines):
         places = for_oracle(model, calls, expected)
         if places is None:
             return None
-        expected, got = ask(oracle, [lines[i] for i in places]), [got[i] if i < len(got) else "-" for i in places]
+        expected = ask(oracle, [rust_line(model, lines[i], calls[i]) for i in places])
+        got = [got[i] if i < len(got) else "-" for i in places]
         lines, calls = [lines[i] for i in places], [calls[i] for i in places]
         expected, got = unmarked(calls, expected), unmarked(calls, got)
     for i, line in enumerate(lines):
@@ -146,7 +157,7 @@ class Counts:
         self.runs, self.finished, self.model, self.oracle = (collections.Counter() for _ in range(4))
         self.left_out, self.finished_oracle, self.verbs, self.answers = (collections.Counter() for _ in range(4))
         self.inner_names = self.inner_runs = self.not_made = self.without = 0
-        self.floors = collections.Counter()
+        self.floors, self.beside, self.dates = (collections.Counter() for _ in range(3))
         self.marks = collections.Counter(on=0, off=0, ignored=0)
 
     def note(self, run, places):
@@ -155,7 +166,9 @@ class Counts:
         self.inner_names += run.inner_names
         self.inner_runs += run.inner_names > 0
         for call, answer in zip(run.calls, run.answers):
-            if answer == "new":
+            if call[0] in scripts.BESIDE:
+                self.beside[call[0]] += 1
+            elif answer == "new":
                 self.floors[call[1].get("floor", 1)] += 1
             elif call[0] == "new":
                 self.not_made += 1
@@ -165,6 +178,8 @@ class Counts:
                 self.model[kind] += 1
                 self.verbs[call[0]] += 1
                 self.answers[answer if answer.startswith("refused") else "accepted"] += 1
+                if call[0] == "append" and answer == "ok" and call[2][0] in scripts.CIVIL:
+                    self.dates[call[2][0]] += 1
                 self.finished[kind] += answer.startswith("ok value")
         if places is None:
             self.left_out[kind] += 1
@@ -193,6 +208,8 @@ class Counts:
         print("answers: " + ", ".join(f"{answer} {n}" for answer, n in order))
         print("floors: " + ", ".join(f"{floor} in {n} runs" for floor, n in sorted(self.floors.items()))
               + f"; {self.not_made} refused, then {self.without} calls, pokes and dumps without a builder")
+        print("dates appended: " + (", ".join(f"{kind} {n}" for kind, n in sorted(self.dates.items())) or "none")
+              + "; without a builder: " + (", ".join(f"{verb} {n}" for verb, n in sorted(self.beside.items())) or "none"))
         print(f"names registered with containers open: {self.inner_names}, in {self.inner_runs} runs")
         print(f"sorted mark of runs finished in both: compared on {self.marks['on']}, compared off {self.marks['off']}, "
               f"ignored after a roll back {self.marks['ignored']}")
@@ -222,7 +239,8 @@ def batch(model, args, runs, counts):
             if mine[-1] == "-":
                 sys.exit("WRITER fell: the runs after it have no answers")
     if asked:
-        rust = cut(ask(args.oracle, [run.lines[i] for run, p, _ in asked for i in p]), [len(p) for _, p, _ in asked])
+        lines = [rust_line(model, run.lines[i], run.calls[i]) for run, p, _ in asked for i in p]
+        rust = cut(ask(args.oracle, lines), [len(p) for _, p, _ in asked])
         for (run, p, mine), theirs in zip(asked, rust):
             calls = [run.calls[i] for i in p]
             if unmarked(calls, [mine[i] for i in p]) != unmarked(calls, theirs) and mine == run.answers:

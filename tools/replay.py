@@ -14,7 +14,7 @@ not used) and its floor, of eight bytes; then a line for each call, poke and dum
 - the call (CALLS), its argument (the mark, which scalar, or which poke), the refusal's number or 0, whether a name is given, the size
   of the output or the place of a poke, and the sizes of the next two fields;
 - the name, the dictionary that a finish must give, or the five used counts that a dump must show (COUNTS), of eight bytes each;
-- the scalar: the bytes of a text, a binary or a UUID, else an integer of 16 bytes and the scale; the value that a finish or a dump
+- the scalar: the bytes of a text, a binary or a UUID, the numbers of a date, of eight bytes each, else an integer of 16 bytes and the scale; the value that a finish or a dump
   (with argument 1) must give; or a poke's bytes, or its numbers of eight bytes each."""
 import argparse
 import os
@@ -23,10 +23,11 @@ import sys
 
 from landed import LANDED
 
-CALLS = ['', 'register', 'list', 'object', 'close', 'rollback', 'unique', 'bytes', 'uuid', 'scalar', 'finish', 'poke', 'dump']
+CALLS = ['', 'register', 'list', 'object', 'close', 'rollback', 'unique', 'bytes', 'uuid', 'scalar', 'finish', 'poke', 'dump', 'civil']
 BYTES = ['binary', 'string', 'short', 'text']
 SCALARS = ['null', 'true', 'false', 'int8', 'int16', 'int32', 'int64', 'float', 'double', 'date', 'time', 'tsmicros',
            'tsntzmicros', 'tsnanos', 'tsntznanos', 'dec4', 'dec8', 'dec16']
+CIVIL = ['ymd', 'ymdts', 'ymdtsntz']
 COUNTS = ['value_used', 'names_used', 'namebytes_used', 'entries_used', 'open']
 POKES = [*COUNTS, 'unique', 'sorted', 'finished', 'container value', 'container names', 'container namebytes', 'container entries',
          'container kind', 'container unique', 'container entry new', 'container entry replaced', 'nameend', 'entry', 'value', 'namebytes', 'floor']
@@ -52,6 +53,8 @@ def scalar(kind, words):
         return 'uuid', 0, octets(words)
     if kind in BYTES:
         return 'bytes', BYTES.index(kind), octets(words)
+    if kind in CIVIL:
+        return 'civil', CIVIL.index(kind), b''.join(int(word).to_bytes(8, 'big', signed=True) for word in words)
     operand = b''
     if words:
         number = int(words[-1], 16 if kind in ('float', 'double') else 10)

@@ -23,14 +23,21 @@ FILLS = (1, 7, 85, 170, 255, 256, 65535, 2**32 - 1, 2**63, 2**64 - 1)
 AMPLE = {"value": 4096, "namebytes": 1024, "names": 64, "entries": 256}
 FLOORS = (1, 1, 1, 1, 1, 1, 1, 2, 3, 4)
 BAD_FLOORS = (0, 5, 6, 256, 2**32 + 1, 2**64 - 1)
+CIVIL = ("ymd", "ymdts", "ymdtsntz")
+BESIDE = ("days", "civil")            # the calls that need no builder
+YEARS = (1, 2, 3, 4, 5, 100, 400, 1582, 1600, 1899, 1900, 1969, 1970, 1972, 2000, 2023, 2024, 2100, 9996, 9998, 9999)
+SPAN = (-719_162, 2_932_896)          # the days of the years 1 to 9999
+OUTSIDE = ((0, 10_000, -1), (0, 13, -1), (0, 29, 30, 31, 32, -1), (DAY, -1))     # of a year, a month, a day and a time
+EXTREMES = (2**31, 2**32 + 1, 2**40 + 1, 2**63 - 1, -2**63)
 NOT_MADE = (("register", b"a"), ("append", None, ("null",)), ("open", None, "list"), ("close",), ("rollback",), ("unique", True),
             ("finish", 9), ("poke", "floor", 1), ("poke", "open", 0), ("dump",), ("dumpvalue",))
 
 
 # ---------------------------------------------------------------- scalars
 
-def rust_holds(scalar):
-    """Whether the Rust's types hold a scalar that document 01 takes."""
+def rust_holds(model, scalar):
+    """Whether the Rust's types hold a scalar that the call takes."""
+    scalar = model.converted(scalar)[1]
     kind = scalar[0]
     if kind in DIGITS:
         return scalar[1] <= DIGITS[kind]
@@ -73,8 +80,30 @@ def text(rng, bad):
     return out
 
 
-def any_scalar(rng, bad):
-    kind = rng.choice(KINDS)
+def date(rng):
+    """Year, month and day, mostly those of a date."""
+    year = rng.choice(YEARS) if rng.random() < 0.5 else rng.randint(1, 9999)
+    return [year, rng.choice((1, 2, 2, 12, rng.randint(1, 12))), rng.choice((1, 28, 29, 30, 31, rng.randint(1, 28)))]
+
+
+def civil(rng, kind, bad):
+    """A date, and where the kind has one a time of day; a bad one has a number that is just outside, or anything."""
+    numbers = date(rng) + [rng.choice((0, 1, DAY - 1, rng.randrange(DAY)))] * (kind != "ymd")
+    for at in rng.sample(range(len(numbers)), rng.choice((0, 1, 1, 1, len(numbers))) if bad else 0):
+        anything = rng.choice((*EXTREMES, rng.getrandbits(rng.randint(1, 63)), -rng.getrandbits(rng.randint(1, 63))))
+        numbers[at] = rng.choice(OUTSIDE[at]) if rng.random() < 0.7 else anything
+    return (kind, *numbers)
+
+
+def day_number(rng):
+    near = rng.choice((*SPAN, 0)) + rng.randint(-2, 2)
+    return rng.choice((near, near, rng.randint(*SPAN), rng.randint(*SPAN), rng.choice(EXTREMES)))
+
+
+def any_scalar(rng, bad, kinds):
+    kind = rng.choice(kinds)
+    if kind in CIVIL:
+        return civil(rng, kind, bad)
     if kind in ("null", "true", "false"):
         return (kind,)
     if kind in ("float", "double"):
@@ -101,11 +130,14 @@ class Run:
 
     `wrong` is the chance of a misplaced or ill-formed call; in a `held` run the accepted scalars are
     those that the Rust's types hold. Under A1 names are registered with containers open in an `inside` run, and in
-    no other, since the Rust has no such call. Under A10 a run has a floor, mostly 1; `made` is the place of the `new`
-    that makes its builder, before which one is now and then refused."""
+    no other, since the Rust has no such call. Under A2 there are dates among the scalars, and between the calls those that
+    need no builder. Under A10 a run has a floor, mostly 1; `made` is the place of the `new` that makes its builder, before
+    which one is now and then refused."""
 
     def __init__(self, model, rng, held, pool=None, wrong=0.02, unique=None, inside=False, floor=None, **settings):
         self.model, self.rng, self.held, self.wrong = model, rng, held, wrong
+        self.dated = "A2" in model.on
+        self.kinds = (*KINDS, *CIVIL) if self.dated else KINDS
         self.inside = "A1" in model.on and (inside or rng.random() < 0.3)
         self.pool = pool or rng.choice([MIXED, MIXED[:3], [rng.randbytes(2).hex().encode() for _ in range(8)]])
         self.session, self.lines, self.calls, self.answers = model.Session(model.on), [], [], []
@@ -120,7 +152,7 @@ class Run:
             if self.chance(0.03):
                 self.say(("new", {**settings, "floor": self.rng.choice(BAD_FLOORS)}))
                 for _ in range(self.rng.randrange(4)):
-                    self.say(self.rng.choice(NOT_MADE))
+                    self.beside() or self.say(self.rng.choice(NOT_MADE))
             settings = {**settings, "floor": floor or self.rng.choice(FLOORS)}
         self.made = len(self.lines)
         self.say(("new", settings))
@@ -156,10 +188,10 @@ class Run:
     def scalar(self):
         while True:
             bad = self.chance(self.wrong)
-            scalar = any_scalar(self.rng, bad)
+            scalar = any_scalar(self.rng, bad, self.kinds)
             refused = self.model.scalar_refusal(scalar)
             if bad or not refused:
-                if refused or not self.held or rust_holds(scalar):
+                if refused or not self.held or rust_holds(self.model, scalar):
                     return scalar
 
     def name(self):
@@ -183,8 +215,16 @@ class Run:
     def finish(self, out=4096):
         return self.say(("finish", out))
 
+    def beside(self):
+        """Now and then a call that needs no builder; else None."""
+        if not self.dated or not self.chance(0.04):
+            return None
+        wanted = civil(self.rng, "ymd", self.chance(0.3))[1:] if self.chance(0.5) else None
+        return self.say(("days", *wanted) if wanted else ("civil", day_number(self.rng)))
+
     def step(self, weights=(9, 4, 3, 2, 1)):
         """Mostly a call that fits the state."""
+        self.beside()
         r = self.record()
         if r.finished and self.chance(0.9):
             return None
@@ -208,6 +248,7 @@ class Run:
 
     def anything(self):
         """Any call, whatever the state."""
+        self.beside()
         verb = self.rng.choice(("register", "append", "append", "open", "close", "rollback", "unique", "finish"))
         if verb == "register" and "A1" in self.model.on and self.record().open and not self.inside:
             verb = "append"

@@ -4,11 +4,11 @@
     spellings.py WRITER [--seed S] [--runs N] [--with SET] [--model FOLDER]
 
 WRITER is variant-script; the model is tools/model, or that of another FOLDER, and answers by the requests of document 02
-in SET, else by those that have landed (landed.py). A run is one random script: signs,
-underscores and leading zeros in numbers, `0x`, capitals, COUNTxHEX, tabs, comments, line ends of three kinds, pokes
-of all fields, now and then another `new`, one that is refused, and a line that is no call. Numbers of `new`, `finish` and
-pokes are those of the grammar, 0 to 2^64 - 1. Every answer must be the model's; where the model cannot take a line, WRITER
-must stop there with status 2 and say which line it is.
+in SET, else by those that have landed (landed.py). A run is one random script: signs, underscores and leading zeros in
+numbers, `0x`, capitals, COUNTxHEX, tabs, comments, line ends of three kinds, dates, pokes of all fields, now and then another
+`new`, one that is refused, and a line that is no call. Numbers of `new`, `finish` and pokes are those of the grammar, 0 to
+2^64 - 1. Every answer must be the model's; where the model cannot take a line, WRITER must stop there with status 2 and say
+which line it is.
 """
 import argparse
 import os
@@ -52,20 +52,38 @@ def some_bytes(rng):
     return seldom(rng, ["6", "6g", "1x2x3", "x61"], [digits(rng, rng.randrange(5)), digits(rng, rng.randrange(5)), repeated])
 
 
-def scalar(rng, script):
-    kind = seldom(rng, ["scalar"], script.KINDS)
-    whole = rng.choice(["", "", "", "+", "-"]) + rng.choice(["0", "127", "0_1", "007", str(rng.getrandbits(rng.choice(BITS)))])
+def whole(rng):
+    return rng.choice(["", "", "", "+", "-"]) + rng.choice(["0", "127", "0_1", "007", str(rng.getrandbits(rng.choice(BITS)))])
+
+
+def date(rng):
+    """Year, month and day, mostly a date's."""
+    years, months, days = ("1", "1970", "+2024", "2_000", "09999", "0"), ("1", "2", "+12", "0_2", "00"), ("1", "28", "29", "+3_1", "030")
+    return [seldom(rng, [whole(rng), "x", "1.0"], part) for part in (years, months, days)]
+
+
+def scalar(rng, model, script):
+    kind = seldom(rng, ["scalar"], [*script.KINDS, *(script.CIVIL if "A2" in model.on else ())])
     if kind in script.PLAIN:
         return kind
     if kind in script.INTEGERS:
-        return f"{kind} {whole}"
+        return f"{kind} {whole(rng)}"
     if kind in script.BITS:
         return f"{kind} " + rng.choice(["", "", "+", "-0", "0x", "0X", "0x_"]) + rng.choice(["0", "1f", "FF", "3f800000", "1_f"])
     if kind in script.DECIMALS:
-        return f"{kind} " + rng.choice(["0", "5", "38", "39", "+3", "255", "1_0"]) + " " + whole
+        return f"{kind} " + rng.choice(["0", "5", "38", "39", "+3", "255", "1_0"]) + " " + whole(rng)
+    if kind in script.CIVIL:
+        times = seldom(rng, [[], [whole(rng)] * 2], [[], []] if kind == "ymd" else [["0"], ["86_399_999_999"], [whole(rng)]])
+        return " ".join([kind, *date(rng), *times])
     if kind == "uuid":
         return "uuid " + seldom(rng, ["8x61"], [digits(rng, 16), "16x61", "8x6162"])
     return f"{kind} " + rng.choice(["", some_bytes(rng)])
+
+
+def beside(rng):
+    """A call that needs no builder."""
+    asked = rng.choice([" ".join(["days", *date(rng)]), "civil " + rng.choice(["-719_162", "+2932896", "2932897", whole(rng)])])
+    return seldom(rng, ["days", "days 1 1", "civil", "civil 1 2", asked + " 1"], [asked])
 
 
 def poke(rng, model):
@@ -85,11 +103,11 @@ def poke(rng, model):
 
 def line(rng, model, script):
     name = rng.choice(["", "", "- ", "name= ", "name=61 ", "name=62 ", f"name={some_bytes(rng)} "])
-    appended, opened, poked = f"append {name}{scalar(rng, script)}", f"open {name}{rng.choice(['list', 'object'])}", poke(rng, model)
+    appended, opened, poked = f"append {name}{scalar(rng, model, script)}", f"open {name}{rng.choice(['list', 'object'])}", poke(rng, model)
     text = seldom(rng, NO_CALLS, [
         appended, appended, appended, opened, opened, poked, poked, "register " + some_bytes(rng), "register", "close", "close",
         "rollback", "unique " + rng.choice("01"), "finish", "finish out=" + size(rng), "dump", "dumpvalue", "", "# nothing",
-        first_line(rng, model) if rng.random() < 0.3 else "close"])
+        first_line(rng, model) if rng.random() < 0.3 else "close", *[beside(rng)] * ("A2" in model.on)])
     behind = rng.choice([" # said", "#said", "\t", "  ", "\v", " \f", "\x1c", "\u00a0"])
     return rng.choice([text, text, text, text + behind, text.replace(" ", "\t ")])
 

@@ -9,7 +9,9 @@ import re
 import shutil
 import sys
 
-ENUMS = {'Variant': 'value', 'VariantBytes': 'value'}
+# the enums that are passed, and the modules that declare them
+ENUMS = {'Variant': 'value::variant', 'VariantBytes': 'value::variant', 'Civil': 'calendar::civil'}
+ENUM_USES = ['%s::%s' % (ENUMS[t], t) for t in sorted(ENUMS, key=lambda t: (ENUMS[t], t))]
 
 
 def calls(text):
@@ -51,17 +53,25 @@ def function(head, record, ps, result, contract, comment, body):
 def broken(contract):
     """A contract over lines of at most 140 characters: what it is of, the storage at exit and what is called on lines of their own."""
     lines = ['']
-    for part in balanced(contract):
+    for part in (piece for part in balanced(contract) for piece in parted(part)):
         if lines[-1] and (len(lines[-1]) + len(part) > 110 or part.startswith('(storageOf')):
             lines.append('')
         lines[-1] = (lines[-1] + ' ' + part).strip()
     return '\n        '.join(lines)
 
 
+def parted(part):
+    """A step's state and its call, apart."""
+    if not part.startswith('(step '):
+        return [part]
+    state, call = step_of([part])
+    return ['(step ' + state, call + ')']
+
+
 def thin_code(fns):
     out = head('the calls that take the record by `&mut`, each over the call by value of the same name.\n'
                '// Derived from the `&mut self` methods of parquet-variant 60.1.0: see lib.rt and NOTICE. Changed: written in Rattle.',
-               ['builder::Answer', 'builder::FinishAnswer', 'semantics::Builder', 'value::variant::Variant', 'value::variant::VariantBytes'], RECORD,
+               sorted(['builder::Answer', 'builder::FinishAnswer', 'semantics::Builder', *ENUM_USES]), RECORD,
                ['ghost use Rattle.builder.specs.Calls.{state};', 'ghost use Rattle.builder_mut.specs.Calls.{DoesThin, FinishesThin};'])
     for name, ps, result, contract, comment in fns:
         call = 'builder::%s(%s)' % (name, ', '.join(['c'] + [p for p, _ in ps]))
@@ -72,7 +82,7 @@ def thin_code(fns):
 
 def bridge_code(fns):
     out = head('each thin call by value, lent a local: the arms of `lend`.',
-               ['crate::thin', 'builder::Called', 'builder::FinishCalled', 'semantics::Builder', 'value::variant::Variant', 'value::variant::VariantBytes'], RECORD,
+               ['crate::thin', *sorted(['builder::Called', 'builder::FinishCalled', 'semantics::Builder', *ENUM_USES])], RECORD,
                ['ghost use Rattle.semantics.specs.Step.{step};', 'ghost use Rattle.builder.specs.Calls.{Does, Finishes, state};'])
     for name, ps, result, contract, _ in fns:
         call = 'thin::%s(%s)' % (name, ', '.join(['&mut c'] + [p for p, _ in ps]))
@@ -161,7 +171,8 @@ def proof(name, ps, result, contract, bridge):
           'use Rattle.semantics.proofs.Builder as B']
     L += ['use Rattle.semantics.proofs.Builder.Laws as B′'] if bridge else []
     for t in sorted({t for _, t in ps if t in ENUMS}):
-        L += ['use Rattle.%s.proofs.variant.%s as %sT' % (ENUMS[t], t, t), 'use Rattle.%s.proofs.variant.%s.Laws as %sL' % (ENUMS[t], t, t)]
+        declared = 'Rattle.%s.%s' % (ENUMS[t].replace('::', '.proofs.'), t)
+        L += ['use %s as %sT' % (declared, t), 'use %s.Laws as %sL' % (declared, t)]
     L += ['use %sLent.{Ways, %s, spellsOf, tellsOf, vssOf}' % (P, ', '.join(sorted(uses)))]
     if bridge:
         L += ['use %sThinLaws.{%s, others, spelled}' % (P, of), 'use %sBridgeLaws.{%s, %s}' % (P, law, says)]

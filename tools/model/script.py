@@ -3,7 +3,7 @@
 A parsed call is a tuple: ('new', {..}), ('register', name), ('append', name|None,
 scalar), ('open', name|None, 'list'|'object'), ('close',), ('rollback',),
 ('unique', bool), ('finish', out), ('poke', words..), ('dump',), ('dumpvalue',);
-of document 02 ('mark',), ('return', n).
+of document 02 ('mark',), ('return', n), and of a call that needs no builder its words.
 A scalar is a tuple: its kind, then its arguments.
 """
 
@@ -20,6 +20,12 @@ DECIMALS = {"dec4": 32, "dec8": 64, "dec16": 128}
 BYTES = ("binary", "string", "short", "text", "uuid")
 KINDS = (*PLAIN, *INTEGERS, *BITS, *DECIMALS, *BYTES)
 CIVIL = {"ymd": 3, "ymdts": 4, "ymdtsntz": 4}  # A2: how many numbers
+BESIDE = {  # calls that need no builder: the request that brings them, and the module that answers
+    "days": ("A2", "calendar_days"), "civil": ("A2", "calendar_days"),
+    "packdec": ("A4", "packed_decimal"), "readdec": ("A4", "packed_decimal"),
+    "read": ("A6", "reading"), "field": ("A6", "reading"), "firstint": ("A6", "reading"),
+    "batchstart": ("A7", "batch"), "batchadd": ("A7", "batch"), "batchread": ("A7", "batch"),
+    "canon": ("A11", "canonical"), "find": ("A12", "path_words"), "small": ("A13", "small_values")}
 
 
 def parse_bytes(token):
@@ -74,6 +80,8 @@ def parse_line(line):
     if not words:
         return None
     verb, rest = words[0], words[1:]
+    if verb in BESIDE:
+        return tuple(words)
     if verb == "new":
         settings = dict(NEW_DEFAULTS)
         for word in rest:

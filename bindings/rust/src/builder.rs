@@ -18,7 +18,7 @@
 // The names of the calls are derived from `VariantBuilder`, `ListBuilder` and `ObjectBuilder` of parquet-variant 60.1.0, src/builder.rs,
 // src/builder/list.rs and src/builder/object.rs (see NOTICE). Changed: one builder over storage that does not grow, calls linked.
 use crate::variant::Numbers;
-use crate::{sys, Refusal, Variant, WORDS};
+use crate::{sys, Civil, Refusal, Variant, WORDS};
 use std::ops::{Deref, DerefMut};
 
 /// One of the four storages: the builder's own, or lent.
@@ -72,7 +72,7 @@ macro_rules! call {
 }
 
 /// A linked call's answer: only 0 is done, whatever other numbers there are.
-fn answer(number: u8) -> Result<(), Refusal> {
+pub(crate) fn answer(number: u8) -> Result<(), Refusal> {
     Refusal::of(number).map_or(Ok(()), Err)
 }
 
@@ -169,6 +169,14 @@ impl<'a> VariantBuilder<'a> {
             }
             Numbers::Uuid(uuid) => call!(self.variant_append_uuid(named, at, len, &uuid)),
         }
+    }
+
+    /// A date, or one and a time of day, stored as the `Date`, `TimestampMicros` or `TimestampNtzMicros` that it is; otherwise as
+    /// `append_value`. One that is not in the calendar is refused with 17.
+    pub fn append_civil(&mut self, name: Option<&[u8]>, civil: impl Into<Civil>) -> Result<(), Refusal> {
+        let (named, name) = (name.is_some(), name.unwrap_or_default());
+        let (code, date, time) = civil.into().numbers();
+        call!(self.variant_append_civil(named, name.as_ptr(), name.len(), code, date.year, date.month, date.day, time))
     }
 
     /// A list, open until it is closed or rolled back.
@@ -281,7 +289,7 @@ mod tests {
         for number in 1..=u8::MAX {
             let refusal = answer(number).expect_err("a refusal");
             assert_eq!(refusal.number(), number);
-            assert_eq!(refusal == Refusal::Unknown(number), !matches!(number, 1..=16 | 24));
+            assert_eq!(refusal == Refusal::Unknown(number), !matches!(number, 1..=17 | 24));
             assert!(refusal.to_string().starts_with(&format!("refused {number}: ")));
         }
     }

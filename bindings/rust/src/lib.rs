@@ -18,12 +18,14 @@
 //! docs/FORMAT.md of the repository says what the bytes and the calls are. Proved is what the linked calls do (`crates/ffi`); this
 //! crate only hands slices to them, and `listing` is for people to read.
 mod builder;
+mod date;
 mod listing;
 mod refusal;
 pub mod sys;
 mod variant;
 
 pub use builder::{Buffer, Storage, VariantBuilder};
+pub use date::{Civil, Date};
 pub use listing::listing;
 pub use refusal::Refusal;
 pub use variant::Variant;

@@ -57,6 +57,7 @@ rows! {
     14 ValueFull "no room for the value or the header in the value bytes"
     15 NoValue "no value was written"
     16 OutputFull "the dictionary does not fit its output"
+    17 OutOfCalendar "a date that is not in the calendar, years 1 to 9999, or with it a time outside the day"
     24 FloorOutOfRange "a floor for widths that is not 1 to 4 bytes: no builder is made"
 }
 

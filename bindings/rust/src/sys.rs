@@ -55,6 +55,29 @@ extern "C" {
         scale: u8,
     ) -> u8;
 
+    /// By its code: 11, a date; 12 and 13, a timestamp in UTC and one without time zone, of a date and a time of day in microseconds. Any
+    /// other code is refused with 7, a date not in the calendar, or a time outside the day, with 17.
+    pub fn variant_append_civil(
+        words: Words,
+        value: *mut u8, value_len: usize,
+        text: *mut u8, text_len: usize,
+        ends: *mut usize, ends_len: usize,
+        entries: *mut usize, entries_len: usize,
+        named: bool,
+        name: *const u8, name_len: usize,
+        code: u8,
+        year: i64,
+        month: i64,
+        day: i64,
+        time: i64,
+    ) -> u8;
+
+    /// The day number of a date, counted from 1970-01-01, into `days`; refused with 17.
+    pub fn variant_days_of(year: i64, month: i64, day: i64, days: *mut i32) -> u8;
+
+    /// The date of a day number, into `year`, `month` and `day`; refused with 17.
+    pub fn variant_date_of(days: i64, year: *mut i64, month: *mut i64, day: *mut i64) -> u8;
+
     /// Of kind 0, binary; 1, String; 2, short text; 3, plain text. Any other kind is refused with 7, as an unknown code is.
     pub fn variant_append_bytes(
         words: Words,

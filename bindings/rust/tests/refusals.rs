@@ -1,5 +1,5 @@
-//! Each number of document 01's table by a short run; a refused call leaves words, storage and output as they were.
-use variant_writer::{sys, Refusal, Variant, VariantBuilder, WORDS};
+//! Each number of the table by a short run; a refused call leaves words, storage and output as they were.
+use variant_writer::{sys, Date, Refusal, Variant, VariantBuilder, WORDS};
 
 /// The call is refused with that number and changes nothing.
 fn refused(number: u8, b: &mut VariantBuilder, call: impl FnOnce(&mut VariantBuilder) -> Result<(), Refusal>) {
@@ -36,6 +36,7 @@ fn all_refused(number: u8, b: &mut VariantBuilder) {
     refused(number, b, |b| b.append_value(None, ()));
     refused(number, b, |b| b.append_value(None, "a"));
     refused(number, b, |b| b.append_value(None, Variant::Uuid([0; 16])));
+    refused(number, b, |b| b.append_civil(None, Date { year: 1970, month: 1, day: 1 }));
     refused(number, b, |b| b.new_list(None));
     refused(number, b, |b| b.new_object(None));
     refused(number, b, |b| b.close());
@@ -116,6 +117,9 @@ fn arguments() {
         Variant::Decimal16 { integer: i128::MIN, scale: 0 },
     ] {
         refused(7, &mut b, |b| b.append_value(Some(b"a"), x));
+    }
+    for day in [0, 30] {
+        refused(17, &mut b, |b| b.append_civil(Some(b"a"), Date { year: 2024, month: 2, day }));
     }
     for x in [Variant::Text(b"\xff"), Variant::String(b"\xc3"), Variant::ShortString(&[97; 64])] {
         refused(8, &mut b, |b| b.append_value(Some(b"a"), x));

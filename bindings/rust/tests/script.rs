@@ -60,17 +60,35 @@ fn floors() {
     assert_eq!(answers(script), first + &second);
 }
 
+#[test]
+fn dates() {
+    let script = "new\nopen list\nappend ymd 1970 1 1\nappend - ymdts 1969 12 31 86399999999\nappend ymdtsntz 1970 +1 0_1 256\n\
+        append ymd 1900 2 29\nappend ymdts 1970 1 1 86400000000\nclose\nfinish\n";
+    let value = "03030005 0e17 2c00000000 30ffffffffffffffff 340001000000000000".replace(' ', "");
+    assert_eq!(answers(script), format!("new\n{}refused 17\nrefused 17\nok\nok value={value} dict=010000\n", "ok\n".repeat(4)));
+}
+
+/// They need no builder.
+#[test]
+fn days_and_dates() {
+    let asked = "days 1 1 1\ndays 9999 12 31\ndays 2000 2 29\ndays 0 2 29\ndays 9223372036854775807 1 1\n\
+        civil -719162\ncivil 2_932_896\ncivil 11016\ncivil -719163\ncivil -9223372036854775808\n";
+    let told = "ok -719162\nok 2932896\nok 11016\nrefused 17\nrefused 17\nok 1 1 1\nok 9999 12 31\nok 2000 2 29\nrefused 17\nrefused 17\n";
+    assert_eq!(answers(asked), told);
+    assert_eq!(answers(&format!("new floor=0\n{asked}close\nnew\n{asked}")), format!("refused 24\n{told}no builder\nnew\n{told}"));
+}
+
 /// After a refused `new`, as before any, no call has a builder; what is no call is found out all the same.
 #[test]
 fn no_builder() {
-    let calls = "register 61\nappend null\nopen list\nclose\nrollback\nunique 1\nfinish\npoke floor 1\ndump\ndumpvalue\n";
-    let none = "no builder\n".repeat(10);
+    let calls = "register 61\nappend null\nappend ymd 1 1 0\nopen list\nclose\nrollback\nunique 1\nfinish\npoke floor 1\ndump\ndumpvalue\n";
+    let none = "no builder\n".repeat(11);
     assert_eq!(answers(calls), none);
     for floor in ["0", "5", "18446744073709551615"] {
         let script = format!("new\nappend null\nnew floor={floor}\n{calls}new floor=4\nfinish\n");
         assert_eq!(answers(&script), format!("new\nok\nrefused 24\n{none}new\nrefused 15\n"));
     }
-    for bad in ["append int8 128", "close 1", "unique 2", "dump 1", "poke", "fnord"] {
+    for bad in ["append int8 128", "append ymd 1 1", "days 1 1", "civil", "close 1", "unique 2", "dump 1", "poke", "fnord"] {
         assert_eq!(run(&[], bad).2, 2, "{bad}");
     }
 }
@@ -122,6 +140,19 @@ append float 100000000
 append text 6
 append text 6g
 append uuid 00
+append ymd 1970 1
+append ymd 1970 1 1 0
+append ymdts 1970 1 1
+append ymdtsntz 1970 1 1 x
+append ymd 9223372036854775808 1 1
+days
+days 1970 1
+days 1970 1 1 0
+days 1970 1 -9223372036854775809
+civil
+civil x
+civil 1 2
+civil 9223372036854775808
 append name=6 null
 open
 open 61 list

@@ -7,7 +7,11 @@ use mathlib.Core.Option.{Option}
 use Prim.Native.Nat.{ℕ, _+_, _*_}
 use lib.Dec.{eqb, ltb}
 use lib.ListN.{length, set}
+use Rattle.encoding.specs.Rows.{Row, first}
 use Rattle.encoding.specs.Slices.{write}
+use Rattle.value.specs.declared.variant.Variant.{Variant}
+use Rattle.value.specs.declared.variant.Variant.the-variants as variant
+use Rattle.value.specs.Scalar.{storedVariant}
 use Rattle.metadata.specs.declared.MetadataBuilder.{MetadataBuilder}
 use Rattle.metadata.specs.Names.{Name, fieldNames, textSize}
 use Rattle.metadata.specs.Calls.{added, hasRoom}
@@ -20,10 +24,11 @@ use Rattle.semantics.specs.declared.Container.{Container}
 use Rattle.semantics.specs.declared.ParentEntry.{ParentEntry}
 use Rattle.semantics.specs.declared.ParentEntry.the-variants.{New, Replaced}
 use Rattle.semantics.specs.declared.View.{View}
-use Rattle.semantics.specs.Record.{Storage, Call, openIn, uniqueness, finish, uniqueNow}
-use Rattle.semantics.specs.Table.{header, numberOf}
+use Rattle.semantics.specs.Record.{Storage, Scalars, Call, openIn, uniqueness, finish, scalarOf, uniqueNow}
+use Rattle.semantics.specs.Table.{header, numberOf, scalarRows}
 use Rattle.semantics.specs.Step.{carriedOut, countWith, dictionaryOf, dictionaryWith, endsWith, entriesClosed, entriesWith, finished, newContainer, parentWith, textWith, withCounts, withUnique}
 use Rattle.actions.specs.declared.Moved.{Moved}
+use Rattle.actions.specs.declared.own.Own.{Own}
 use Rattle.actions.specs.declared.Opened.{Opened}
 use Rattle.actions.specs.declared.UniqueSet.{UniqueSet}
 use Rattle.actions.specs.declared.Ended.{Ended}
@@ -91,6 +96,15 @@ pub record EntersBy (v : View) (l : Storage) (nm : Option Name) (into opens : Bo
   pub endsLeft : ends ≡ cond (eqb n 0) (endsWith v l nm) (l .ends)
   pub entries : n ≡ 0 → entriesPut r (l .entries) ≡ cond into (entriesWith v l nm) (l .entries)
   pub parent : n ≡ 0 → parentPut r (l .entries) ≡ cond into (parentWith v l nm) New
+
+-- what is stored for a scalar with these rows of its own, where no test of theirs holds; else null, which nothing stores
+abbrev pub ownOf : List Row → Variant → Own
+ownOf rows x = record { variant = cond (eqb (first rows) 0) x variant.Null; number = first rows }
+
+-- a scalar with this number of its own, which is stored as x where that is 0
+pub record StoredAs (s : Scalars) (x : Variant) (own : ℕ) : Type 0 where
+  pub number : own ≡ first (scalarRows s)
+  pub scalar : own ≡ 0 → scalarOf s ≡ storedVariant x
 
 -- the container that opens, of the counts before and what was entered
 abbrev pub childOf : Counts → Entered → ParentEntry → Bool → Container

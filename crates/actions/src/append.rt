@@ -4,6 +4,8 @@
 use crate::Moved;
 use crate::enter::enter_over;
 use crate::enter::note;
+use crate::own::civil_own;
+use calendar::civil::Civil;
 use refusals::row;
 use semantics::View;
 use value::scalar::bytes_size;
@@ -15,9 +17,9 @@ use value::variant::Variant;
 use value::variant::VariantBytes;
 use value::variant::ill_formed;
 use value::variant::out_of_range;
-ghost use Rattle.semantics.specs.Record.{append as appendOf, bytes as bytesOf, fixed, uuid as uuidOf, storageOf};
+ghost use Rattle.semantics.specs.Record.{Scalars, append as appendOf, bytes as bytesOf, civil, fixed, uuid as uuidOf, storageOf};
 ghost use Rattle.refusals.specs.Decide.{nameOf};
-ghost use Rattle.actions.specs.Actions.{Leaves};
+ghost use Rattle.actions.specs.Actions.{Leaves, StoredAs};
 
 pub fn append_value_over(
     v: View,
@@ -33,8 +35,48 @@ pub fn append_value_over(
         (appendOf (nameOf named (now (name .entry))) (fixed x)) r
         (storageOf (now (value .exit)) (now (text .exit)) (now (ends .exit)) (now (entries .exit))) ⌝ }
 {
-    let size = variant_size(x);
     let n = row(out_of_range(x), 7, 0);
+    append_own(v, value, text, ends, entries, named, name, x, n)
+}
+
+// A date, or a date and a time of day.
+pub fn append_civil_over(
+    v: View,
+    value: &mut [u8],
+    text: &mut [u8],
+    ends: &mut [usize],
+    entries: &mut [usize],
+    named: bool,
+    name: &[u8],
+    x: Civil,
+) -> Moved
+    ensures { λ r. ⌜ Leaves v (storageOf (now (value .entry)) (now (text .entry)) (now (ends .entry)) (now (entries .entry)))
+        (appendOf (nameOf named (now (name .entry))) (civil x)) r
+        (storageOf (now (value .exit)) (now (text .exit)) (now (ends .exit)) (now (entries .exit))) ⌝ }
+{
+    let o = civil_own(x);
+    let y = o.variant;
+    append_own(v, value, text, ends, entries, named, name, y, o.number)
+}
+
+// A scalar that is stored as one of fixed size, with its own number, 0 where it has none.
+fn append_own(
+    v: View,
+    value: &mut [u8],
+    text: &mut [u8],
+    ends: &mut [usize],
+    entries: &mut [usize],
+    named: bool,
+    name: &[u8],
+    x: Variant,
+    own: u8,
+) -> Moved
+    ensures { λ r. ⌜ ((s : Scalars) → StoredAs s x own
+        → Leaves v (storageOf (now (value .entry)) (now (text .entry)) (now (ends .entry)) (now (entries .entry)))
+        (appendOf (nameOf named (now (name .entry))) s) r
+        (storageOf (now (value .exit)) (now (text .exit)) (now (ends .exit)) (now (entries .exit)))) ⌝ }
+{
+    let size = variant_size(x);
     let e = enter_over(
         v,
         value,
@@ -45,7 +87,7 @@ pub fn append_value_over(
         name,
         true,
         false,
-        n,
+        own,
         size,
     );
     let c = e.counts;

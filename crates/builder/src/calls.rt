@@ -9,6 +9,7 @@ use crate::view::called;
 use crate::view::called_with;
 use crate::view::view_of;
 use actions::append_bytes_over;
+use actions::append_civil_over;
 use actions::append_uuid_over;
 use actions::append_value_over;
 use actions::close_over;
@@ -17,12 +18,13 @@ use actions::open_over;
 use actions::register;
 use actions::rollback_over;
 use actions::unique_over;
+use calendar::civil::Civil;
 use semantics::Builder;
 use value::variant::Variant;
 use value::variant::VariantBytes;
 ghost use mathlib.Core.Path.{_≡_};
 ghost use mathlib.Core.Bool.{false, true};
-ghost use Rattle.semantics.specs.Record.{append as appendOf, bytes as bytesOf, close as closeOf, finish as finishOf, fixed, openIn, register as registerOf, rollBack, uniqueness, uuid as uuidOf, storageOf};
+ghost use Rattle.semantics.specs.Record.{append as appendOf, bytes as bytesOf, civil, close as closeOf, finish as finishOf, fixed, openIn, register as registerOf, rollBack, uniqueness, uuid as uuidOf, storageOf};
 ghost use Rattle.semantics.specs.Step.{step};
 ghost use Rattle.refusals.specs.Decide.{nameOf};
 ghost use Rattle.builder.specs.Calls.{Does, Finishes, finishAnswer, state};
@@ -62,6 +64,26 @@ pub fn append_value(
 {
     let v = view_of(b);
     let r = append_value_over(v, value, text, ends, entries, named, name, x);
+    called(b, r)
+}
+
+// A date, or one of the two timestamps in microseconds, from a date and a time of day.
+pub fn append_civil(
+    b: Builder,
+    value: &mut [u8],
+    text: &mut [u8],
+    ends: &mut [usize],
+    entries: &mut [usize],
+    named: bool,
+    name: &[u8],
+    x: Civil,
+) -> Called
+    ensures { λ r. ⌜ Does r (storageOf (now (value .exit)) (now (text .exit)) (now (ends .exit)) (now (entries .exit)))
+        (step (state b (storageOf (now (value .entry)) (now (text .entry)) (now (ends .entry)) (now (entries .entry))))
+        (appendOf (nameOf named (now (name .entry))) (civil x))) ⌝ }
+{
+    let v = view_of(b);
+    let r = append_civil_over(v, value, text, ends, entries, named, name, x);
     called(b, r)
 }
 

@@ -2,12 +2,13 @@
 use crate::thin;
 use builder::Called;
 use builder::FinishCalled;
+use calendar::civil::Civil;
 use semantics::Builder;
 use value::variant::Variant;
 use value::variant::VariantBytes;
 ghost use mathlib.Core.Path.{_≡_};
 ghost use mathlib.Core.Bool.{false, true};
-ghost use Rattle.semantics.specs.Record.{append as appendOf, bytes as bytesOf, close as closeOf, finish as finishOf, fixed, openIn, register as registerOf, rollBack, uniqueness, uuid as uuidOf, storageOf};
+ghost use Rattle.semantics.specs.Record.{append as appendOf, bytes as bytesOf, civil, close as closeOf, finish as finishOf, fixed, openIn, register as registerOf, rollBack, uniqueness, uuid as uuidOf, storageOf};
 ghost use Rattle.refusals.specs.Decide.{nameOf};
 ghost use Rattle.semantics.specs.Step.{step};
 ghost use Rattle.builder.specs.Calls.{Does, Finishes, state};
@@ -22,7 +23,8 @@ pub(crate) fn add_field_name_lent(
 ) -> Called
     ensures { λ r. ⌜ Does r
         (storageOf (now (value .entry)) (now (text .exit)) (now (ends .exit)) (now (entries .entry)))
-        (step (state b (storageOf (now (value .entry)) (now (text .entry)) (now (ends .entry)) (now (entries .entry)))) (registerOf (now (name .entry)))) ⌝ }
+        (step (state b (storageOf (now (value .entry)) (now (text .entry)) (now (ends .entry)) (now (entries .entry))))
+        (registerOf (now (name .entry)))) ⌝ }
 {
     let mut c = b;
     let a = thin::add_field_name(&mut c, value, text, ends, entries, name);
@@ -45,10 +47,35 @@ pub(crate) fn append_value_lent(
 ) -> Called
     ensures { λ r. ⌜ Does r
         (storageOf (now (value .exit)) (now (text .exit)) (now (ends .exit)) (now (entries .exit)))
-        (step (state b (storageOf (now (value .entry)) (now (text .entry)) (now (ends .entry)) (now (entries .entry)))) (appendOf (nameOf named (now (name .entry))) (fixed x))) ⌝ }
+        (step (state b (storageOf (now (value .entry)) (now (text .entry)) (now (ends .entry)) (now (entries .entry))))
+        (appendOf (nameOf named (now (name .entry))) (fixed x))) ⌝ }
 {
     let mut c = b;
     let a = thin::append_value(&mut c, value, text, ends, entries, named, name, x);
+    let d = c;
+    Called {
+        answer: a,
+        builder: d,
+    }
+}
+
+pub(crate) fn append_civil_lent(
+    b: Builder,
+    value: &mut [u8],
+    text: &mut [u8],
+    ends: &mut [usize],
+    entries: &mut [usize],
+    named: bool,
+    name: &[u8],
+    x: Civil,
+) -> Called
+    ensures { λ r. ⌜ Does r
+        (storageOf (now (value .exit)) (now (text .exit)) (now (ends .exit)) (now (entries .exit)))
+        (step (state b (storageOf (now (value .entry)) (now (text .entry)) (now (ends .entry)) (now (entries .entry))))
+        (appendOf (nameOf named (now (name .entry))) (civil x))) ⌝ }
+{
+    let mut c = b;
+    let a = thin::append_civil(&mut c, value, text, ends, entries, named, name, x);
     let d = c;
     Called {
         answer: a,
@@ -69,7 +96,8 @@ pub(crate) fn append_bytes_lent(
 ) -> Called
     ensures { λ r. ⌜ Does r
         (storageOf (now (value .exit)) (now (text .exit)) (now (ends .exit)) (now (entries .exit)))
-        (step (state b (storageOf (now (value .entry)) (now (text .entry)) (now (ends .entry)) (now (entries .entry)))) (appendOf (nameOf named (now (name .entry))) (bytesOf kind (now (bytes .entry))))) ⌝ }
+        (step (state b (storageOf (now (value .entry)) (now (text .entry)) (now (ends .entry)) (now (entries .entry))))
+        (appendOf (nameOf named (now (name .entry))) (bytesOf kind (now (bytes .entry))))) ⌝ }
 {
     let mut c = b;
     let a = thin::append_bytes(&mut c, value, text, ends, entries, named, name, kind, bytes);
@@ -92,7 +120,8 @@ pub(crate) fn append_uuid_lent(
 ) -> Called
     ensures { λ r. ⌜ Does r
         (storageOf (now (value .exit)) (now (text .exit)) (now (ends .exit)) (now (entries .exit)))
-        (step (state b (storageOf (now (value .entry)) (now (text .entry)) (now (ends .entry)) (now (entries .entry)))) (appendOf (nameOf named (now (name .entry))) (uuidOf uuid))) ⌝ }
+        (step (state b (storageOf (now (value .entry)) (now (text .entry)) (now (ends .entry)) (now (entries .entry))))
+        (appendOf (nameOf named (now (name .entry))) (uuidOf uuid))) ⌝ }
 {
     let mut c = b;
     let a = thin::append_uuid(&mut c, value, text, ends, entries, named, name, uuid);
@@ -114,7 +143,8 @@ pub(crate) fn new_list_lent(
 ) -> Called
     ensures { λ r. ⌜ Does r
         (storageOf (now (value .entry)) (now (text .exit)) (now (ends .exit)) (now (entries .exit)))
-        (step (state b (storageOf (now (value .entry)) (now (text .entry)) (now (ends .entry)) (now (entries .entry)))) (openIn (nameOf named (now (name .entry))) false)) ⌝ }
+        (step (state b (storageOf (now (value .entry)) (now (text .entry)) (now (ends .entry)) (now (entries .entry))))
+        (openIn (nameOf named (now (name .entry))) false)) ⌝ }
 {
     let mut c = b;
     let a = thin::new_list(&mut c, value, text, ends, entries, named, name);
@@ -136,7 +166,8 @@ pub(crate) fn new_object_lent(
 ) -> Called
     ensures { λ r. ⌜ Does r
         (storageOf (now (value .entry)) (now (text .exit)) (now (ends .exit)) (now (entries .exit)))
-        (step (state b (storageOf (now (value .entry)) (now (text .entry)) (now (ends .entry)) (now (entries .entry)))) (openIn (nameOf named (now (name .entry))) true)) ⌝ }
+        (step (state b (storageOf (now (value .entry)) (now (text .entry)) (now (ends .entry)) (now (entries .entry))))
+        (openIn (nameOf named (now (name .entry))) true)) ⌝ }
 {
     let mut c = b;
     let a = thin::new_object(&mut c, value, text, ends, entries, named, name);
@@ -156,7 +187,8 @@ pub(crate) fn close_lent(
 ) -> Called
     ensures { λ r. ⌜ Does r
         (storageOf (now (value .exit)) (now (text .entry)) (now (ends .entry)) (now (entries .exit)))
-        (step (state b (storageOf (now (value .entry)) (now (text .entry)) (now (ends .entry)) (now (entries .entry)))) closeOf) ⌝ }
+        (step (state b (storageOf (now (value .entry)) (now (text .entry)) (now (ends .entry)) (now (entries .entry))))
+        closeOf) ⌝ }
 {
     let mut c = b;
     let a = thin::close(&mut c, value, text, ends, entries);
@@ -176,7 +208,8 @@ pub(crate) fn rollback_lent(
 ) -> Called
     ensures { λ r. ⌜ Does r
         (storageOf (now (value .entry)) (now (text .entry)) (now (ends .entry)) (now (entries .exit)))
-        (step (state b (storageOf (now (value .entry)) (now (text .entry)) (now (ends .entry)) (now (entries .entry)))) rollBack) ⌝ }
+        (step (state b (storageOf (now (value .entry)) (now (text .entry)) (now (ends .entry)) (now (entries .entry))))
+        rollBack) ⌝ }
 {
     let mut c = b;
     let a = thin::rollback(&mut c, value, text, ends, entries);
@@ -197,7 +230,8 @@ pub(crate) fn with_validate_unique_fields_lent(
 ) -> Called
     ensures { λ r. ⌜ Does r
         (storageOf (now (value .entry)) (now (text .entry)) (now (ends .entry)) (now (entries .entry)))
-        (step (state b (storageOf (now (value .entry)) (now (text .entry)) (now (ends .entry)) (now (entries .entry)))) (uniqueness unique)) ⌝ }
+        (step (state b (storageOf (now (value .entry)) (now (text .entry)) (now (ends .entry)) (now (entries .entry))))
+        (uniqueness unique)) ⌝ }
 {
     let mut c = b;
     let a = thin::with_validate_unique_fields(&mut c, value, text, ends, entries, unique);
@@ -219,7 +253,8 @@ pub(crate) fn finish_lent(
     ensures { λ r. ⌜ Finishes r
         (storageOf (now (value .entry)) (now (text .entry)) (now (ends .entry)) (now (entries .entry)))
         (now (out .exit))
-        (step (state b (storageOf (now (value .entry)) (now (text .entry)) (now (ends .entry)) (now (entries .entry)))) (finishOf (now (out .entry)))) ⌝ }
+        (step (state b (storageOf (now (value .entry)) (now (text .entry)) (now (ends .entry)) (now (entries .entry))))
+        (finishOf (now (out .entry)))) ⌝ }
 {
     let mut c = b;
     let a = thin::finish(&mut c, value, text, ends, entries, out);

@@ -3,6 +3,7 @@ use crate::Call;
 use crate::LendCalled;
 use crate::bridge::add_field_name_lent;
 use crate::bridge::append_bytes_lent;
+use crate::bridge::append_civil_lent;
 use crate::bridge::append_uuid_lent;
 use crate::bridge::append_value_lent;
 use crate::bridge::close_lent;
@@ -62,6 +63,10 @@ pub fn lend(
             lent(c)
         }
         Call::Finish => finished(finish_lent(b, value, text, ends, entries, out)),
+        Call::AppendCivil(x) => {
+            let c = append_civil_lent(b, value, text, ends, entries, named, name, x);
+            lent(c)
+        }
     }
 }
 

@@ -22,10 +22,12 @@ mod bridge;
 mod lending;
 mod thin;
 
+use calendar::civil::Civil;
 pub use lending::lend;
 use semantics::Builder;
 pub use thin::add_field_name;
 pub use thin::append_bytes;
+pub use thin::append_civil;
 pub use thin::append_uuid;
 pub use thin::append_value;
 pub use thin::close;
@@ -49,6 +51,7 @@ pub enum Call {
     Rollback,
     WithValidateUniqueFields(bool),
     Finish,
+    AppendCivil(Civil),
 }
 
 // A call's number, 0 where it was carried out; the bytes that a finish wrote; the builder then.

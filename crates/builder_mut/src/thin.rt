@@ -2,12 +2,13 @@
 // Derived from the `&mut self` methods of parquet-variant 60.1.0: see lib.rt and NOTICE. Changed: written in Rattle.
 use builder::Answer;
 use builder::FinishAnswer;
+use calendar::civil::Civil;
 use semantics::Builder;
 use value::variant::Variant;
 use value::variant::VariantBytes;
 ghost use mathlib.Core.Path.{_≡_};
 ghost use mathlib.Core.Bool.{false, true};
-ghost use Rattle.semantics.specs.Record.{append as appendOf, bytes as bytesOf, close as closeOf, finish as finishOf, fixed, openIn, register as registerOf, rollBack, uniqueness, uuid as uuidOf, storageOf};
+ghost use Rattle.semantics.specs.Record.{append as appendOf, bytes as bytesOf, civil, close as closeOf, finish as finishOf, fixed, openIn, register as registerOf, rollBack, uniqueness, uuid as uuidOf, storageOf};
 ghost use Rattle.refusals.specs.Decide.{nameOf};
 ghost use Rattle.builder.specs.Calls.{state};
 ghost use Rattle.builder_mut.specs.Calls.{DoesThin, FinishesThin};
@@ -50,6 +51,28 @@ pub fn append_value(
 {
     let c = *b;
     let r = builder::append_value(c, value, text, ends, entries, named, name, x);
+    *b = r.builder;
+    r.answer
+}
+
+// A date, or one of the two timestamps in microseconds, from a date and a time of day.
+pub fn append_civil(
+    b: &mut Builder,
+    value: &mut [u8],
+    text: &mut [u8],
+    ends: &mut [usize],
+    entries: &mut [usize],
+    named: bool,
+    name: &[u8],
+    x: Civil,
+) -> Answer
+    ensures { λ r. ⌜ DoesThin r (now (b .exit))
+        (storageOf (now (value .exit)) (now (text .exit)) (now (ends .exit)) (now (entries .exit)))
+        (state (now (b .entry)) (storageOf (now (value .entry)) (now (text .entry)) (now (ends .entry)) (now (entries .entry))))
+        (appendOf (nameOf named (now (name .entry))) (civil x)) ⌝ }
+{
+    let c = *b;
+    let r = builder::append_civil(c, value, text, ends, entries, named, name, x);
     *b = r.builder;
     r.answer
 }

@@ -12,7 +12,8 @@ use borrow.Author.Tests.{eqb-true, eqb-false, eq-eqb, ne-eqb}
 use Rattle.encoding.specs.Rows.{first}
 use Rattle.encoding.specs.declared.slices.Placed.{Placed}
 use Rattle.encoding.specs.Slices.{Writes}
-use Rattle.value.specs.Scalar.{illFormed, scalarBytes, storedBytes}
+use Rattle.value.specs.declared.variant.Variant.{Variant}
+use Rattle.value.specs.Scalar.{illFormed, scalarBytes, storedBytes, storedVariant}
 use Rattle.metadata.specs.Names.{Name}
 use Rattle.semantics.specs.declared.Builder.{Builder}
 use Rattle.semantics.specs.declared.Container.{Container}
@@ -29,9 +30,9 @@ use Rattle.actions.specs.declared.Opened.{Opened}
 use Rattle.actions.specs.declared.UniqueSet.{UniqueSet}
 use Rattle.actions.specs.declared.Ended.{Ended}
 use Rattle.actions.specs.declared.enter.Entered.{Entered}
-use Rattle.actions.specs.Actions.{EntersBy, Leaves, Opens, SetsUnique, Ends, childOf, entriesPut, parentPut}
+use Rattle.actions.specs.Actions.{EntersBy, Leaves, Opens, SetsUnique, StoredAs, Ends, childOf, entriesPut, parentPut}
 use Rattle.actions.proofs.EnterLaws.{enter-clears}
-use Rattle.actions.proofs.AppendLaws.{append-refused, append-rows, append-stays, append-writes}
+use Rattle.actions.proofs.AppendLaws.{append-refused, append-rows, append-stays, append-writes, stored-stays, stored-writes}
 use Rattle.actions.proofs.OpenLaws.{opens, opens-refused, registers}
 use Rattle.actions.proofs.UniqueLaws.{unique-open}
 use Rattle.ffi.specs.Scalars.{bytesBy, kindOf, noScalar}
@@ -86,13 +87,23 @@ module _ (ws : List ℕ) (l : Storage) (nm : Option Name) (into opens : Bool) (o
 
 -- an append, from what is entered
 module _ (ws : List ℕ) (l : Storage) (nm : Option Name) (x : Scalars) {own size : ℕ} {e : Entered} {us text ends : List ℕ} (o : own ≡ first (scalarRows x))
-    (s : size ≡ length (scalarBytes (scalarOf x))) (w : EntersWords ws us l nm true false own size e text ends) where
+    (s : own ≡ 0 → size ≡ length (scalarBytes (scalarOf x))) (w : EntersWords ws us l nm true false own size e text ends) where
   pub does-refused : (e .number ≡ 0 → ⊥) → DoesWords (e .number) ws us l (storageOf (l .value) text ends (l .entries)) (append nm x)
   does-refused z = does-moved ws l (append nm x) refl (λ b. refl) refl (append-stays x o s (w .enters) z) (puts-entered w)
 
-  pub does-appended : {p : Placed} {value entries : List ℕ} → e .number ≡ 0 → entries ≡ entriesPut e (l .entries) → Writes (countsOf ws .value) (scalarBytes (scalarOf x)) (l .value) p value
+  pub does-appended : {p : Placed} {value entries : List ℕ} → e .number ≡ 0 → entries ≡ entriesPut e (l .entries) → (own ≡ 0 → Writes (countsOf ws .value) (scalarBytes (scalarOf x)) (l .value) p value)
       → DoesWords 0 ws us l (storageOf value text ends entries) (append nm x)
   does-appended z g b = rw z at (does-moved ws l (append nm x) refl (λ b. refl) refl (append-writes x o s (w .enters) z g b) (puts-entered w))
+
+-- one that is stored as a scalar of fixed size
+module _ (ws : List ℕ) (l : Storage) (nm : Option Name) {s : Scalars} {x : Variant} {own size : ℕ} {e : Entered} {us text ends : List ℕ} (t : StoredAs s x own)
+    (h : size ≡ length (scalarBytes (storedVariant x))) (w : EntersWords ws us l nm true false own size e text ends) where
+  pub stored-refused : (e .number ≡ 0 → ⊥) → DoesWords (e .number) ws us l (storageOf (l .value) text ends (l .entries)) (append nm s)
+  stored-refused z = does-moved ws l (append nm s) refl (λ b. refl) refl (stored-stays t h (w .enters) z) (puts-entered w)
+
+  pub stored-appended : {p : Placed} {value entries : List ℕ} → e .number ≡ 0 → entries ≡ entriesPut e (l .entries) → Writes (countsOf ws .value) (scalarBytes (storedVariant x)) (l .value) p value
+      → DoesWords 0 ws us l (storageOf value text ends entries) (append nm s)
+  stored-appended z g b = rw z at (does-moved ws l (append nm s) refl (λ b. refl) refl (stored-writes t h (w .enters) z g b) (puts-entered w))
 
 -- a name registered
 pub does-registered : (ws : List ℕ) (l : Storage) (name : Name) {e : Entered} {us text ends : List ℕ} → EntersWords ws us l (nameOf true name) false false 0 0 e text ends
@@ -105,7 +116,7 @@ module _ (ws : List ℕ) (l : Storage) (nm : Option Name) (kind : ℕ) (bs : Lis
   -- of an unknown kind the rows are those of what is no scalar
   unknown : own ≡ 7 → first (enterRows (viewOf (builderOf ws)) l nm true false own size) ≡ numberOf (viewOf (builderOf ws)) l (append nm (fixed noScalar))
   unfolding first
-  unknown h = rw h (append-rows (viewOf (builderOf ws)) l nm (fixed noScalar) {own = 7} {size = length (scalarBytes (scalarOf (fixed noScalar)))} refl refl)
+  unknown h = rw h (append-rows (viewOf (builderOf ws)) l nm (fixed noScalar) {own = 7} {size = length (scalarBytes (scalarOf (fixed noScalar)))} refl (λ _. refl))
 
   pub bytes-refused : (e .number ≡ 0 → ⊥) → DoesWords (e .number) ws us l (storageOf (l .value) text ends (l .entries)) (append nm (bytesBy kind bs))
   unfolding bytesBy first
@@ -113,7 +124,7 @@ module _ (ws : List ℕ) (l : Storage) (nm : Option Name) (kind : ℕ) (bs : Lis
     where
       go : (t : Bool) → ltb 3 kind ≡ t → DoesWords (e .number) ws us l (storageOf (l .value) text ends (l .entries)) (append nm (bytesBy kind bs))
       go true p = rw p (does-moved ws l (append nm (fixed noScalar)) refl (λ b. refl) refl (append-refused (fixed noScalar) own (unknown (rw p at o)) (w .enters) z) (puts-entered w))
-      go false p = rw p (does-refused ws l nm (bytes (kindOf kind) bs) (rw p at o) s w z)
+      go false p = rw p (does-refused ws l nm (bytes (kindOf kind) bs) (rw p at o) (λ _. s) w z)
 
   pub bytes-appended : {p : Placed} {value entries : List ℕ} → e .number ≡ 0 → entries ≡ entriesPut e (l .entries) → Writes (countsOf ws .value) (scalarBytes (storedBytes (kindOf kind) bs)) (l .value) p value
       → DoesWords 0 ws us l (storageOf value text ends entries) (append nm (bytesBy kind bs))
@@ -124,7 +135,7 @@ module _ (ws : List ℕ) (l : Storage) (nm : Option Name) (kind : ℕ) (bs : Lis
       go true p =
           let n = sym (unknown (rw p at o)) ∙ (sym (w .enters .number) ∙ z) in
           absurd (true≢false (none-at (viewOf (builderOf ws)) l (append nm (fixed noScalar)) n 7))
-      go false p = rw p (does-appended ws l nm (bytes (kindOf kind) bs) (rw p at o) s w z g b)
+      go false p = rw p (does-appended ws l nm (bytes (kindOf kind) bs) (rw p at o) (λ _. s) w z g (λ _. b))
 
 -- ---- a container put
 

@@ -4,3 +4,4 @@ pub mod ScalarLaws
 pub mod CodeLaws
 pub mod CallLaws
 pub mod ChainLaws
+pub mod DateLaws

@@ -1,3 +1,4 @@
 -- What state words and a scalar's numbers mean, and what a word call answers and leaves behind.
 pub mod Words
 pub mod Scalars
+pub mod Dates

@@ -19,6 +19,7 @@
 // The names are derived from the methods of `VariantBuilder`, `ListBuilder` and `ObjectBuilder` of parquet-variant 60.1.0 (see NOTICE).
 // Changed: written in Rattle, over state words.
 use crate::WORDS;
+use crate::dates::civil_by;
 use crate::scalars::kind_of;
 use crate::scalars::variant_of;
 use crate::words::chain_of;
@@ -46,13 +47,16 @@ use value::scalar::variant_size;
 use value::scalar::write_bytes;
 use value::scalar::write_uuid;
 use value::scalar::write_variant;
+use value::variant::Variant;
 use value::variant::ill_formed;
 use value::variant::out_of_range;
 ghost use mathlib.Core.Path.{_≡_};
 ghost use mathlib.Core.Bool.{false, true};
 ghost use lib.ListN.{length};
-ghost use Rattle.semantics.specs.Record.{append as appendOf, close as closeOf, fixed, openIn, register as registerOf, rollBack, uniqueness, uuid as uuidOf, storageOf};
+ghost use Rattle.semantics.specs.Record.{Scalars, append as appendOf, close as closeOf, fixed, openIn, register as registerOf, rollBack, uniqueness, uuid as uuidOf, storageOf};
 ghost use Rattle.refusals.specs.Decide.{nameOf};
+ghost use Rattle.actions.specs.Actions.{StoredAs};
+ghost use Rattle.ffi.specs.Dates.{civilBy, dateOf};
 ghost use Rattle.ffi.specs.Scalars.{bytesBy, variantOf};
 ghost use Rattle.ffi.specs.Words.{DoesWords, EntersWords, FinishesWords, MakesWords};
 
@@ -158,10 +162,57 @@ pub extern "C" fn variant_append_value(
         (storageOf (now (value .exit)) (now (text .exit)) (now (ends .exit)) (now (entries .exit)))
         (appendOf (nameOf named (now (name .entry))) (fixed (variantOf code z low scale))) ⌝ }
 {
-    let c = counts_of(words);
     let x = variant_of(code, z, low, scale);
-    let size = variant_size(x);
     let n = row(out_of_range(x), 7, 0);
+    append_own(words, value, text, ends, entries, named, name, x, n)
+}
+
+// A date, or a date and a time of day in microseconds, by the code of the type that it is stored as: 11, a date; 12 and 13, a timestamp in
+// UTC and one without time zone. Those of any other code are refused as numbers that are no scalar.
+#[no_mangle]
+pub extern "C" fn variant_append_civil(
+    words: &mut [usize; WORDS],
+    value: &mut [u8],
+    text: &mut [u8],
+    ends: &mut [usize],
+    entries: &mut [usize],
+    named: bool,
+    name: &[u8],
+    code: u8,
+    year: i64,
+    month: i64,
+    day: i64,
+    time: i64,
+) -> u8
+    ensures { λ r. ⌜ DoesWords r (now (words .entry)) (now (words .exit))
+        (storageOf (now (value .entry)) (now (text .entry)) (now (ends .entry)) (now (entries .entry)))
+        (storageOf (now (value .exit)) (now (text .exit)) (now (ends .exit)) (now (entries .exit)))
+        (appendOf (nameOf named (now (name .entry))) (civilBy code (dateOf year month day) time)) ⌝ }
+{
+    let s = civil_by(code, year, month, day, time);
+    let x = s.variant;
+    append_own(words, value, text, ends, entries, named, name, x, s.number)
+}
+
+// A scalar that is stored as one of fixed size, with its own number, 0 where it has none.
+fn append_own(
+    words: &mut [usize; WORDS],
+    value: &mut [u8],
+    text: &mut [u8],
+    ends: &mut [usize],
+    entries: &mut [usize],
+    named: bool,
+    name: &[u8],
+    x: Variant,
+    own: u8,
+) -> u8
+    ensures { λ r. ⌜ ((s : Scalars) → StoredAs s x own → DoesWords r (now (words .entry)) (now (words .exit))
+        (storageOf (now (value .entry)) (now (text .entry)) (now (ends .entry)) (now (entries .entry)))
+        (storageOf (now (value .exit)) (now (text .exit)) (now (ends .exit)) (now (entries .exit)))
+        (appendOf (nameOf named (now (name .entry))) s)) ⌝ }
+{
+    let c = counts_of(words);
+    let size = variant_size(x);
     let e = enter(
         words,
         value,
@@ -172,7 +223,7 @@ pub extern "C" fn variant_append_value(
         name,
         true,
         false,
-        n,
+        own,
         size,
     );
     if e.number != 0 {

@@ -9,6 +9,7 @@
 // caller. What a proof cannot see is the caller's: that the words and the slices are valid for the call and do not overlap. A slice
 // is passed as a pointer and a length.
 mod calls;
+mod dates;
 mod scalars;
 mod words;
 

@@ -114,6 +114,25 @@ enter-late v l nm into opens own size e i =
     let k = first-none (behind 8 order) (lateRows v l nm into opens size) refl .0 (past-own own _ (past (into && secondTop v) 5 _ (d .1) .1)) in
     clear-at i (lateRows v l nm into opens size) k
 
+-- number 0 leaves the scalar without a number of its own
+pub own-zero : (v : View) (l : Storage) (nm : Option Name) (into opens : Bool) (own size : ℕ) → first (enterRows v l nm into opens own size) ≡ 0 → own ≡ 0
+unfolding first
+own-zero v l nm into opens own size e =
+    let a = past (damaged v l (misreadInto into v l nm)) 0 _ e in
+    let b = past (v .counts .finished) 1 _ (a .1) in
+    let d = past (into && misnamed nm v) 4 _ (b .1) in
+    go (eqb own 0) refl _ (past (into && secondTop v) 5 _ (d .1) .1)
+  where
+    go : (t : Bool) → eqb own 0 ≡ t → (rest : ℕ) → cond (not t) own rest ≡ 0 → own ≡ 0
+    go true p rest h = eqb-true own 0 p
+    go false p rest h = h
+
+-- which is asked before its room is
+pub own-before : (v : View) (l : Storage) (nm : Option Name) (into opens : Bool) (own size other : ℕ) → (own ≡ 0 → ⊥)
+    → first (enterRows v l nm into opens own size) ≡ first (enterRows v l nm into opens own other)
+unfolding first
+own-before v l nm into opens own size other z = rw (ne-eqb own 0 z) refl
+
 -- the answer: the field where the number is 0
 pub decides : {into : Bool} {n m : ℕ} {v : View} {l : Storage} {nm : Option Name} {f : Named} {r : Decided} → Sees into v l nm f → (n ≡ 0 → f .number ≡ 0) → m ≡ n → r ≡ decidedOf n (f .field) → Decides m into v l nm r
 decides {into} {n} {m} {v} {l} {nm} {f} {r} s z e d = go (eqb n 0) refl

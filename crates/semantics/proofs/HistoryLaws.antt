@@ -15,11 +15,12 @@ use Rattle.value.specs.declared.variant.VariantBytes.{VariantBytes}
 use Rattle.value.specs.declared.variant.VariantBytes.the-variants.{Binary, String, ShortString, Text}
 use Rattle.value.specs.Scalar.{short, scalarBytes, long, plain, storedBytes, Whole}
 use Rattle.value.proofs.ScalarParse.{stored-whole, uuid-whole, bytes-whole}
+use Rattle.calendar.specs.Answers.{civilVariant}
 use Rattle.metadata.specs.Names.{Name, same, place}
 use Rattle.metadata.proofs.DictionaryLaws.{same-differs, place-low, place-added, Distinct, distinct-none, distinct-added, distinct-front}
 use Rattle.container.proofs.SortLaws.{Mem}
 use Rattle.semantics.specs.declared.View.{View}
-use Rattle.semantics.specs.Record.{State, Scalars, fixed, bytes, uuid, inObject, Call, register, append, openIn, close, rollBack, uniqueness, finish, scalarOf, sixteen}
+use Rattle.semantics.specs.Record.{State, Scalars, fixed, civil, bytes, uuid, inObject, Call, register, append, openIn, close, rollBack, uniqueness, finish, scalarOf, sixteen}
 use Rattle.semantics.specs.Tree.{Mark, element, live, replaced, Tree, scalar, nest, Items, empty, item, encode}
 use Rattle.semantics.specs.History.{Level, History, noHistory, withName, unlive, replace, snoc, entered, enter, closeLevel, dropLevel, accepted, fed}
 use Rattle.semantics.specs.Run.{refused, historyFrom, historyOf, kept}
@@ -449,6 +450,7 @@ length-bytes Text bs = length-plain bs
 pub scalar-whole : (v : Scalars) → length (scalarBytes (scalarOf v)) < 256 ^ 4 → Whole (scalarOf v)
 unfolding scalarBytes
 scalar-whole (fixed v) h = stored-whole v
+scalar-whole (civil x) h = stored-whole (civilVariant x)
 scalar-whole (bytes k bs) h = bytes-whole k bs (omega (arith, length-bytes k bs))
 scalar-whole (uuid bs) h =
     let n = length-append bs (replicate 16 0) in

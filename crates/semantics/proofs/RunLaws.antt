@@ -9,7 +9,7 @@ use lib.ListN.{take}
 use borrow.Author.Tests.{eqb-true, eqb-false}
 use Rattle.encoding.specs.Rows.{first, testOf, Clear, order, inOrder}
 use Rattle.encoding.proofs.RowsLaws.{first-none, clear-at}
-use Rattle.semantics.specs.Record.{State, viewOf, fixed, bytes, uuid, Call, register, append, openIn, close, rollBack, uniqueness, finish}
+use Rattle.semantics.specs.Record.{State, viewOf, fixed, civil, bytes, uuid, Call, register, append, openIn, close, rollBack, uniqueness, finish}
 use Rattle.semantics.specs.Step.{step, after, outputOf, writtenBy}
 use Rattle.semantics.specs.History.{accepted, fed}
 use Rattle.semantics.specs.Ledger.{Lent, Account, refusalOf}
@@ -25,6 +25,7 @@ use Rattle.semantics.proofs.Simulation.{Linked, linked-fresh, linked-st
 rows-in-order : (m : Machine) (lent : Lent) (c : Call) → inOrder order (rowsAt m lent c) ≡ true
 rows-in-order m lent (register n) = refl
 rows-in-order m lent (append nm (fixed x)) = refl
+rows-in-order m lent (append nm (civil x)) = refl
 rows-in-order m lent (append nm (bytes k bs)) = refl
 rows-in-order m lent (append nm (uuid bs)) = refl
 rows-in-order m lent (openIn nm k) = refl

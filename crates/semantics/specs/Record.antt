@@ -8,6 +8,8 @@ use lib.ListN.{getD, replicate, take}
 use Rattle.value.specs.declared.variant.Variant.{Variant}
 use Rattle.value.specs.declared.variant.VariantBytes.{VariantBytes}
 use Rattle.value.specs.Scalar.{Scalar, storedVariant, storedBytes, storedUuid}
+use Rattle.calendar.specs.declared.civil.Civil.{Civil}
+use Rattle.calendar.specs.Answers.{civilVariant}
 use Rattle.metadata.specs.Names.{Name, namesOf}
 use Rattle.container.specs.Entries.{entriesOf}
 use Rattle.container.specs.declared.Entry.{Entry}
@@ -33,9 +35,10 @@ pub record State : Type 0 where
 
 -- ---- the calls, with their arguments as the caller gave them
 
--- what is appended
+-- what is appended; document 02, A2: "appending of a date, and of the two microsecond timestamps, from a Gregorian date and a time of day"
 pub data Scalars : Type 0 where
   fixed : Variant → Scalars
+  civil : Civil → Scalars
   bytes : VariantBytes → List ℕ → Scalars
   uuid : List ℕ → Scalars
 
@@ -57,6 +60,7 @@ sixteen bs = take 16 (bs ++ replicate 16 0)
 -- the scalar as stored type and payload
 abbrev pub scalarOf : Scalars → Scalar
 scalarOf (fixed v) = storedVariant v
+scalarOf (civil x) = storedVariant (civilVariant x)
 scalarOf (bytes k bs) = storedBytes k bs
 scalarOf (uuid bs) = storedUuid (sixteen bs)
 

@@ -1,6 +1,8 @@
 // One line's call.
 use crate::input::Header;
 use builder_mut::Call;
+use calendar::civil::Civil;
+use calendar::date::Date;
 use value::decimal::VariantDecimal4;
 use value::decimal::VariantDecimal8;
 use value::decimal::VariantDecimal16;
@@ -20,6 +22,7 @@ pub fn call_of(h: Header, operand: &[u8]) -> Call {
         7 => Call::AppendBytes(kind(argument)),
         8 => Call::AppendUuid,
         9 => Call::AppendValue(scalar(argument, operand)),
+        13 => Call::AppendCivil(civil(argument, operand)),
         _ => Call::Finish,
     }
 }
@@ -84,6 +87,21 @@ fn decimal(code: u8, high: i64, low: u64, scale: u8) -> Variant {
             scale,
         }),
         _ => Variant::Decimal16(VariantDecimal16 { high, low, scale }),
+    }
+}
+
+// A date, or a date and a time: four numbers of eight bytes each.
+fn civil(code: u8, operand: &[u8]) -> Civil {
+    let date = Date {
+        year: signed(word(operand, 0)),
+        month: signed(word(operand, 8)),
+        day: signed(word(operand, 16)),
+    };
+    let time = signed(word(operand, 24));
+    match code {
+        0 => Civil::Date(date),
+        1 => Civil::TimestampMicros(date, time),
+        _ => Civil::TimestampNtzMicros(date, time),
     }
 }
 

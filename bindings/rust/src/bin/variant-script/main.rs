@@ -1,6 +1,7 @@
 //! Answers a script of calls, one answer line a call, as the Python model of document 01 does.
 //!
 //! `variant-script --help` says how they are written (help.txt).
+mod beside;
 mod parse;
 mod poke;
 mod session;

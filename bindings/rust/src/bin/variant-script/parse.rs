@@ -1,5 +1,5 @@
 //! The words of a script: numbers, bytes and scalars. An error says what was expected.
-use variant_writer::Variant;
+use variant_writer::{Civil, Date, Variant};
 
 pub type Expected<T> = Result<T, String>;
 
@@ -17,6 +17,10 @@ fn integer(word: &str, base: u32) -> Option<i128> {
 fn signed(word: &str, bits: u32) -> Expected<i128> {
     let top = i128::MAX >> (128 - bits);
     integer(word, 10).filter(|n| (-top - 1..=top).contains(n)).ok_or_else(|| format!("a number of {bits} bits, with a sign, for {word:?}"))
+}
+
+pub fn signed64(word: &str) -> Expected<i64> {
+    Ok(signed(word, 64)? as i64)
 }
 
 /// A number from 0 to 2^64 - 1.
@@ -77,22 +81,36 @@ pub fn scalar<'h>(words: &[&str], hold: &'h mut Vec<u8>) -> Expected<Variant<'h>
         ["int8", n] => Int8(signed(n, 8)? as i8),
         ["int16", n] => Int16(signed(n, 16)? as i16),
         ["int32", n] => Int32(signed(n, 32)? as i32),
-        ["int64", n] => Int64(signed(n, 64)? as i64),
+        ["int64", n] => Int64(signed64(n)?),
         ["date", n] => Date(signed(n, 32)? as i32),
-        ["time", n] => Time(signed(n, 64)? as i64),
-        ["tsmicros", n] => TimestampMicros(signed(n, 64)? as i64),
-        ["tsntzmicros", n] => TimestampNtzMicros(signed(n, 64)? as i64),
-        ["tsnanos", n] => TimestampNanos(signed(n, 64)? as i64),
-        ["tsntznanos", n] => TimestampNtzNanos(signed(n, 64)? as i64),
+        ["time", n] => Time(signed64(n)?),
+        ["tsmicros", n] => TimestampMicros(signed64(n)?),
+        ["tsntzmicros", n] => TimestampNtzMicros(signed64(n)?),
+        ["tsnanos", n] => TimestampNanos(signed64(n)?),
+        ["tsntznanos", n] => TimestampNtzNanos(signed64(n)?),
         ["float", n] => Float(f32::from_bits(bits(n, 32)? as u32)),
         ["double", n] => Double(f64::from_bits(bits(n, 64)?)),
         ["dec4", s, n] => Decimal4 { scale: scale(s)?, integer: signed(n, 32)? as i32 },
-        ["dec8", s, n] => Decimal8 { scale: scale(s)?, integer: signed(n, 64)? as i64 },
+        ["dec8", s, n] => Decimal8 { scale: scale(s)?, integer: signed64(n)? },
         ["dec16", s, n] => Decimal16 { scale: scale(s)?, integer: signed(n, 128)? },
         [kind] => held(kind, "", hold)?,
         [kind, word] => held(kind, word, hold)?,
         _ => return Err(unknown(words)),
     })
+}
+
+/// A date, or one and a time of day.
+pub fn civil(words: &[&str]) -> Expected<Civil> {
+    Ok(match *words {
+        ["ymd", y, m, d] => Civil::Date(date(y, m, d)?),
+        ["ymdts", y, m, d, time] => Civil::TimestampMicros(date(y, m, d)?, signed64(time)?),
+        ["ymdtsntz", y, m, d, time] => Civil::TimestampNtzMicros(date(y, m, d)?, signed64(time)?),
+        _ => return Err(unknown(words)),
+    })
+}
+
+pub fn date(year: &str, month: &str, day: &str) -> Expected<Date> {
+    Ok(Date { year: signed64(year)?, month: signed64(month)?, day: signed64(day)? })
 }
 
 fn unknown(words: &[&str]) -> String {

@@ -1,10 +1,10 @@
 //! A run of calls: each line's call made, and its answer worded.
-use crate::parse::{bytes, name, room, scalar, unsigned, Expected};
-use crate::poke;
+use crate::parse::{bytes, civil, name, room, scalar, unsigned, Expected};
+use crate::{beside, poke};
 use std::fmt::Write;
 use variant_writer::{listing, Refusal, VariantBuilder};
 
-const VERBS: &str = "a call: new, register, append, open, close, rollback, unique, finish, poke, dump or dumpvalue";
+const VERBS: &str = "a call: new, register, append, open, close, rollback, unique, finish, days, civil, poke, dump or dumpvalue";
 const SETTINGS: [&str; 7] = ["unique", "value", "namebytes", "names", "entries", "fill", "floor"];
 
 pub struct Session {
@@ -24,6 +24,7 @@ impl Session {
         let Some((&verb, rest)) = words.split_first() else { return Ok(()) };
         match (verb, &mut self.builder) {
             ("new", _) => self.start(settings(rest, &SETTINGS, [0, 4096, 1024, 64, 256, 0, 1])?, out),
+            _ if beside::VERBS.contains(&verb) => beside::answer(verb, rest, out),
             (_, Some(builder)) => answer_on(builder, verb, rest, self.listing, out),
             (_, None) => answer_without(verb, rest, out),
         }
@@ -112,11 +113,7 @@ fn call(b: &mut VariantBuilder, verb: &str, rest: &[&str]) -> Expected<Result<()
     Ok(match (verb, rest) {
         ("register", []) => b.add_field_name(&[]),
         ("register", [word, ..]) => b.add_field_name(&bytes(word)?),
-        ("append", _) => {
-            let (name, words) = name(rest)?;
-            let mut hold = Vec::new();
-            b.append_value(name.as_deref(), scalar(words, &mut hold)?)
-        }
+        ("append", _) => append(b, rest)?,
         ("open", _) => match name(rest)? {
             (name, ["list"]) => b.new_list(name.as_deref()),
             (name, ["object"]) => b.new_object(name.as_deref()),
@@ -129,6 +126,15 @@ fn call(b: &mut VariantBuilder, verb: &str, rest: &[&str]) -> Expected<Result<()
         ("unique", _) => return Err("unique 0|1".into()),
         ("close" | "rollback" | "dump" | "dumpvalue", _) => return Err(format!("nothing after `{verb}`")),
         _ => return Err(format!("{VERBS}, for {verb:?}")),
+    })
+}
+
+fn append(b: &mut VariantBuilder, rest: &[&str]) -> Expected<Result<(), Refusal>> {
+    let (name, words) = name(rest)?;
+    let name = name.as_deref();
+    Ok(match words {
+        ["ymd" | "ymdts" | "ymdtsntz", ..] => b.append_civil(name, civil(words)?),
+        _ => b.append_value(name, scalar(words, &mut Vec::new())?),
     })
 }
 

@@ -17,7 +17,7 @@ returns : tie.Need-returns
 returns c =
     let e = c .before .before .before .before .before .before .before in
     let s = e .before .before .before .before .before .before .before .before .before .before in
-    append-stays (uuid (s .args .uuid)) {own = 0} {size = 17} own-none (uuid-size (s .args .uuid) (whole s)) (e .enter-over .ensures) (c .if1 .taken)
+    append-stays (uuid (s .args .uuid)) {own = 0} {size = 17} own-none (λ _. uuid-size (s .args .uuid) (whole s)) (e .enter-over .ensures) (c .if1 .taken)
 
 returns-2 : tie.Need-returns-2
 returns-2 c =
@@ -26,8 +26,8 @@ returns-2 c =
     let e = i .before .before .before .before .before .before .before in
     let s = e .before .before .before .before .before .before .before .before .before .before in
     let a = s .args in
-    append-writes (uuid (a .uuid)) {own = 0} {size = 17} own-none (uuid-size (a .uuid) (whole s)) (e .enter-over .ensures)
-    (i .if1 .left) (n .note .ensures .1) (writes-uuid (a .v .counts .value) (a .uuid) (a .value .now) (whole s) (c .before .before .write-uuid .ensures))
+    append-writes (uuid (a .uuid)) {own = 0} {size = 17} own-none (λ _. uuid-size (a .uuid) (whole s)) (e .enter-over .ensures)
+    (i .if1 .left) (n .note .ensures .1) (λ _. writes-uuid (a .v .counts .value) (a .uuid) (a .value .now) (whole s) (c .before .before .write-uuid .ensures))
 
 pub append-uuid-over-spec : {M : Type 1} → statement M
 append-uuid-over-spec =

@@ -1,26 +1,15 @@
 use borrow.Author.Needs.{needs}
 use Rattle.semantics.specs.Record.{fixed}
-use Rattle.refusals.proofs.RowLaws.{own-row}
-use Rattle.actions.proofs.AppendLaws.{append-stays, append-writes}
+use Rattle.actions.proofs.AppendLaws.{fixed-stored}
 use Rattle.actions.proofs.append.append_value_over.Statement.{statement}
 use Rattle.actions.proofs.append.append_value_over.Tie as tie
 
 returns : tie.Need-returns
 returns c =
-    let e = c .before .before .before .before .before .before .before in
-    let o = e .before .before .before .before .before in
-    let a = o .before .before .before .before .before .before .before .before .args in
-    append-stays (fixed (a .x)) (own-row 7 (o .row .ensures) (o .before .out-of-range .ensures)) (o .before .before .variant-size .ensures) (e .enter-over .ensures) (c .if1 .taken)
-
-returns-2 : tie.Need-returns-2
-returns-2 c =
-    let n = c .before .before .before .before .before .before in
-    let i = n .before .before in
-    let e = i .before .before .before .before .before .before .before in
-    let o = e .before .before .before .before .before in
-    let a = o .before .before .before .before .before .before .before .before .args in
-    append-writes (fixed (a .x)) (own-row 7 (o .row .ensures) (o .before .out-of-range .ensures)) (o .before .before .variant-size .ensures) (e .enter-over .ensures)
-    (i .if1 .left) (n .note .ensures .1) (c .before .before .write-variant .ensures)
+    let o = c .before .before .before .before .before .before .before .before in
+    let r = o .before .before .before .before .before in
+    let a = r .before .before .before .before .before .before .before .args in
+    o .append-own .ensures (fixed (a .x)) (fixed-stored (a .x) (r .row .ensures) (r .before .out-of-range .ensures))
 
 pub append-value-over-spec : {M : Type 1} → statement M
 append-value-over-spec =
@@ -29,16 +18,8 @@ append-value-over-spec =
     (λ c κs. search needs)
     (λ c κs. search needs)
     (λ c κs. search needs)
-    (λ c κs. search needs)
     (λ c. search needs)
     (λ c. search needs)
     (λ c. search needs)
     (λ c. search needs)
-    returns
-    (λ c κs. search needs)
-    (λ c κs. search needs)
-    (λ c. search needs)
-    (λ c. search needs)
-    (λ c. search needs)
-    (λ c. search needs)
-    returns-2)
+    returns)

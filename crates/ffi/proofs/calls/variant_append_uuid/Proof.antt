@@ -14,7 +14,7 @@ returns c =
     let t = u .before .before in
     let a = t .before .before .before .before .before .before .args in
     does-refused (a .words .now) (storageOf (a .value .now) (a .text .now) (a .ends .now) (a .entries .now)) (nameOf (a .named) (a .name .now)) (uuid (a .uuid .now)) {own = 0} {size = 17} own-none
-    (uuid-size (a .uuid .now) (t .sixteen .ensures)) (e .enter .ensures) (c .if1 .taken)
+    (λ _. uuid-size (a .uuid .now) (t .sixteen .ensures)) (e .enter .ensures) (c .if1 .taken)
 
 returns-2 : tie.Need-returns-2
 returns-2 c =
@@ -25,8 +25,8 @@ returns-2 c =
     let t = u .before .before in
     let a = t .before .before .before .before .before .before .args in
     does-appended (a .words .now) (storageOf (a .value .now) (a .text .now) (a .ends .now) (a .entries .now)) (nameOf (a .named) (a .name .now)) (uuid (a .uuid .now)) {own = 0} {size = 17} own-none
-    (uuid-size (a .uuid .now) (t .sixteen .ensures)) (e .enter .ensures) (i .if1 .left) (n .note .ensures .1)
-    (writes-uuid _ (a .uuid .now) (a .value .now) (t .sixteen .ensures) (rw (u .counts-of .ensures) at (c .before .before .write-uuid .ensures)))
+    (λ _. uuid-size (a .uuid .now) (t .sixteen .ensures)) (e .enter .ensures) (i .if1 .left) (n .note .ensures .1)
+    (λ _. writes-uuid _ (a .uuid .now) (a .value .now) (t .sixteen .ensures) (rw (u .counts-of .ensures) at (c .before .before .write-uuid .ensures)))
 
 pub variant-append-uuid-spec : {M : Type 1} → statement M
 variant-append-uuid-spec =

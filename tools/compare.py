@@ -11,10 +11,10 @@ requests of document 02 by which the model answers, as its --with does; without 
 
 Every answer of WRITER must be the model's. ORACLE gets the same runs but for altered storage, without the calls
 that are refused with a number other than 6, 10 and 15 (a refusal changes nothing; so none of 17 and above), without those
-that need no builder and without dumps; an accepted date goes as the scalar that is stored for it. Each of its answers must be
-WRITER's. Left out is a run with an accepted scalar that the Rust's types don't hold, a name registered inside a container, a
-floor other than 1, a mark set or returned to. From an accepted roll back on the dictionary's sorted mark is not compared with
-the Rust, which keeps another one there; in all other runs it is.
+that need no builder and without dumps; an accepted date or packed decimal goes as the scalar that is stored for it. Each of its
+answers must be WRITER's. Left out is a run with an accepted scalar that the Rust's types don't hold, a name registered inside a
+container, a floor other than 1, a mark set or returned to. From an accepted roll back on the dictionary's sorted mark is not
+compared with the Rust, which keeps another one there; in all other runs it is.
 --sample writes scripts.txt and answers.txt: short runs of calls that the Rust answers, chosen by document 01 alone, and its
 answers, but for the mark where it is not compared: that one is the model's, by what has landed.
 """
@@ -54,7 +54,7 @@ def ask(program, lines):
 
 
 def rust_line(model, line, call):
-    """The line as the Rust is given it: an accepted date is the scalar that is stored for it."""
+    """The line as the Rust is given it: an accepted date or packed decimal is the scalar that is stored for it."""
     if call[0] != "append" or model.converted(call[2])[1] == call[2]:
         return line
     return model.format_call((*call[:2], model.converted(call[2])[1]))
@@ -94,7 +94,7 @@ def for_oracle(model, calls, answers):
             places.append(i)
             depth += OPENED.get(call[0], 0)
         elif answer in ("refused 6", "refused 10", "refused 15"):
-            # 6 comes before 7, 17 and 8: the Rust cannot say what those would refuse
+            # 6 comes before 18, 7, 17 and 8: the Rust cannot say what those would refuse
             if held and (call[0] != "append" or not model.scalar_refusal(call[2])):
                 places.append(i)
     return places
@@ -157,7 +157,7 @@ class Counts:
         self.runs, self.finished, self.model, self.oracle = (collections.Counter() for _ in range(4))
         self.left_out, self.finished_oracle, self.verbs, self.answers = (collections.Counter() for _ in range(4))
         self.inner_names = self.inner_runs = self.not_made = self.without = 0
-        self.floors, self.beside, self.dates = (collections.Counter() for _ in range(3))
+        self.floors, self.beside, self.forms = (collections.Counter() for _ in range(3))
         self.marks = collections.Counter(on=0, off=0, ignored=0)
 
     def note(self, run, places):
@@ -178,8 +178,8 @@ class Counts:
                 self.model[kind] += 1
                 self.verbs[call[0]] += 1
                 self.answers[answer if answer.startswith("refused") else "accepted"] += 1
-                if call[0] == "append" and answer == "ok" and call[2][0] in scripts.CIVIL:
-                    self.dates[call[2][0]] += 1
+                if call[0] == "append" and answer == "ok" and call[2][0] not in scripts.KINDS:
+                    self.forms[call[2][0]] += 1
                 self.finished[kind] += answer.startswith("ok value")
         if places is None:
             self.left_out[kind] += 1
@@ -208,7 +208,7 @@ class Counts:
         print("answers: " + ", ".join(f"{answer} {n}" for answer, n in order))
         print("floors: " + ", ".join(f"{floor} in {n} runs" for floor, n in sorted(self.floors.items()))
               + f"; {self.not_made} refused, then {self.without} calls, pokes and dumps without a builder")
-        print("dates appended: " + (", ".join(f"{kind} {n}" for kind, n in sorted(self.dates.items())) or "none")
+        print("forms of document 02 appended: " + (", ".join(f"{kind} {n}" for kind, n in sorted(self.forms.items())) or "none")
               + "; without a builder: " + (", ".join(f"{verb} {n}" for verb, n in sorted(self.beside.items())) or "none"))
         print(f"names registered with containers open: {self.inner_names}, in {self.inner_runs} runs")
         print(f"sorted mark of runs finished in both: compared on {self.marks['on']}, compared off {self.marks['off']}, "

@@ -11,10 +11,10 @@ computed here. In crates/test_replay/data are
 All is hexadecimal; sizes are two bytes, highest first. The first line is the number of scripts. A script is a line of its mark,
 the number of its maker's refusal or 0, how many lines follow, the storage that it is lent (value, namebytes, names, entries; `fill` is
 not used) and its floor, of eight bytes; then a line for each call, poke and dump that has a builder, of three fields:
-- the call (CALLS), its argument (the mark, which scalar, or which poke), the refusal's number or 0, whether a name is given, the size
+- the call (CALLS), its argument (the mark, which scalar, the scale of packed decimal, or which poke), the refusal's number or 0, whether a name is given, the size
   of the output or the place of a poke, and the sizes of the next two fields;
 - the name, the dictionary that a finish must give, or the five used counts that a dump must show (COUNTS), of eight bytes each;
-- the scalar: the bytes of a text, a binary or a UUID, the numbers of a date, of eight bytes each, else an integer of 16 bytes and the scale; the value that a finish or a dump
+- the scalar: the bytes of a text, a binary, a UUID or packed decimal, the numbers of a date, of eight bytes each, else an integer of 16 bytes and the scale; the value that a finish or a dump
   (with argument 1) must give; or a poke's bytes, or its numbers of eight bytes each."""
 import argparse
 import os
@@ -23,7 +23,7 @@ import sys
 
 from landed import LANDED
 
-CALLS = ['', 'register', 'list', 'object', 'close', 'rollback', 'unique', 'bytes', 'uuid', 'scalar', 'finish', 'poke', 'dump', 'civil']
+CALLS = ['', 'register', 'list', 'object', 'close', 'rollback', 'unique', 'bytes', 'uuid', 'scalar', 'finish', 'poke', 'dump', 'civil', 'packed']
 BYTES = ['binary', 'string', 'short', 'text']
 SCALARS = ['null', 'true', 'false', 'int8', 'int16', 'int32', 'int64', 'float', 'double', 'date', 'time', 'tsmicros',
            'tsntzmicros', 'tsnanos', 'tsntznanos', 'dec4', 'dec8', 'dec16']
@@ -55,6 +55,8 @@ def scalar(kind, words):
         return 'bytes', BYTES.index(kind), octets(words)
     if kind in CIVIL:
         return 'civil', CIVIL.index(kind), b''.join(int(word).to_bytes(8, 'big', signed=True) for word in words)
+    if kind == 'packed':
+        return 'packed', int(words[0]), octets(words[1:])
     operand = b''
     if words:
         number = int(words[-1], 16 if kind in ('float', 'double') else 10)

@@ -24,11 +24,12 @@ AMPLE = {"value": 4096, "namebytes": 1024, "names": 64, "entries": 256}
 FLOORS = (1, 1, 1, 1, 1, 1, 1, 2, 3, 4)
 BAD_FLOORS = (0, 5, 6, 256, 2**32 + 1, 2**64 - 1)
 CIVIL = ("ymd", "ymdts", "ymdtsntz")
-BESIDE = ("days", "civil")            # the calls that need no builder
+BESIDE = {"days": "A2", "civil": "A2", "packdec": "A4", "readdec": "A4"}      # the calls that need no builder
 YEARS = (1, 2, 3, 4, 5, 100, 400, 1582, 1600, 1899, 1900, 1969, 1970, 1972, 2000, 2023, 2024, 2100, 9996, 9998, 9999)
 SPAN = (-719_162, 2_932_896)          # the days of the years 1 to 9999
 OUTSIDE = ((0, 10_000, -1), (0, 13, -1), (0, 29, 30, 31, 32, -1), (DAY, -1))     # of a year, a month, a day and a time
 EXTREMES = (2**31, 2**32 + 1, 2**40 + 1, 2**63 - 1, -2**63)
+POWERS = (9, 9, 18, 18, 38, 38, *range(39))
 NOT_MADE = (("register", b"a"), ("append", None, ("null",)), ("open", None, "list"), ("close",), ("rollback",), ("unique", True),
             ("finish", 9), ("poke", "floor", 1), ("poke", "open", 0), ("dump",), ("dumpvalue",))
 
@@ -100,10 +101,34 @@ def day_number(rng):
     return rng.choice((near, near, rng.randint(*SPAN), rng.randint(*SPAN), rng.choice(EXTREMES)))
 
 
+def magnitude(rng):
+    """At a power of ten, or of any count of digits to 39."""
+    near = 10**rng.choice(POWERS) - rng.choice((0, 1, 1))
+    return rng.choice((near, near, rng.randrange(10**rng.randint(1, 39)), rng.randrange(10)))
+
+
+def any_scale(rng):
+    return rng.choice((0, 1, rng.randint(0, 9), rng.randrange(39), rng.choice((9, 10, 18, 19, 38, 39, 255))))
+
+
+def packed(rng, bad):
+    """Packed decimal, now and then with zeros in front; a bad one is empty, too long, too large, or has a digit or a sign that is none."""
+    large = rng.choice((10**38, rng.randrange(10**38, 10**39), 2**128 + 5))
+    digits = str(large if bad and rng.random() < 0.3 else magnitude(rng)) + rng.choice("ccdf")
+    digits = "0" * (len(digits) % 2) + digits
+    digits = "00" * rng.choice((0, 0, 0, 1, 20 - len(digits) // 2)) + digits
+    at = rng.randrange(len(digits) - 1)
+    wrong = ("", "00" * (21 - len(digits) // 2) + digits, "00" * rng.randint(1, 50) + digits, rng.randbytes(rng.randint(1, 24)).hex(),
+             digits[:at] + rng.choice("abcdef") + digits[at + 1:], digits[:-1] + rng.choice("abe0129"))
+    return bytes.fromhex(rng.choice(wrong) if bad and rng.random() < 0.6 else digits)
+
+
 def any_scalar(rng, bad, kinds):
     kind = rng.choice(kinds)
     if kind in CIVIL:
         return civil(rng, kind, bad)
+    if kind == "packed":
+        return (kind, any_scale(rng), packed(rng, bad))
     if kind in ("null", "true", "false"):
         return (kind,)
     if kind in ("float", "double"):
@@ -123,6 +148,20 @@ def any_scalar(rng, bad, kinds):
     return (kind, whole(rng, kind))
 
 
+def without_builder(rng, verb, bad):
+    """A call that needs no builder."""
+    if verb == "days":
+        return (verb, *civil(rng, "ymd", bad)[1:])
+    if verb == "civil":
+        return (verb, day_number(rng))
+    if verb == "readdec":
+        return (verb, any_scale(rng), packed(rng, bad).hex())
+    n = rng.choice((1, -1)) * magnitude(rng)
+    n = rng.choice((2**127 - 1, -2**127, 1 - 2**127)) if bad and rng.random() < 0.2 or abs(n) >> 127 else n
+    out = len(str(abs(n))) // 2 + rng.choice((1, 1, 0, 5))
+    return (verb, any_scale(rng), n, *[f"out={out}"] * (rng.random() < 0.7))
+
+
 # ---------------------------------------------------------------- a run
 
 class Run:
@@ -130,14 +169,14 @@ class Run:
 
     `wrong` is the chance of a misplaced or ill-formed call; in a `held` run the accepted scalars are
     those that the Rust's types hold. Under A1 names are registered with containers open in an `inside` run, and in
-    no other, since the Rust has no such call. Under A2 there are dates among the scalars, and between the calls those that
-    need no builder. Under A10 a run has a floor, mostly 1; `made` is the place of the `new` that makes its builder, before
-    which one is now and then refused."""
+    no other, since the Rust has no such call. Under A2 there are dates among the scalars, under A4 packed decimal, and
+    between the calls those that need no builder. Under A10 a run has a floor, mostly 1; `made` is the place of the `new`
+    that makes its builder, before which one is now and then refused."""
 
     def __init__(self, model, rng, held, pool=None, wrong=0.02, unique=None, inside=False, floor=None, **settings):
         self.model, self.rng, self.held, self.wrong = model, rng, held, wrong
-        self.dated = "A2" in model.on
-        self.kinds = (*KINDS, *CIVIL) if self.dated else KINDS
+        self.kinds = (*KINDS, *CIVIL * ("A2" in model.on), *("packed",) * 2 * ("A4" in model.on))
+        self.asked = [verb for verb, request in BESIDE.items() if request in model.on]
         self.inside = "A1" in model.on and (inside or rng.random() < 0.3)
         self.pool = pool or rng.choice([MIXED, MIXED[:3], [rng.randbytes(2).hex().encode() for _ in range(8)]])
         self.session, self.lines, self.calls, self.answers = model.Session(model.on), [], [], []
@@ -217,10 +256,9 @@ class Run:
 
     def beside(self):
         """Now and then a call that needs no builder; else None."""
-        if not self.dated or not self.chance(0.04):
+        if not self.asked or not self.chance(0.04):
             return None
-        wanted = civil(self.rng, "ymd", self.chance(0.3))[1:] if self.chance(0.5) else None
-        return self.say(("days", *wanted) if wanted else ("civil", day_number(self.rng)))
+        return self.say(without_builder(self.rng, self.rng.choice(self.asked), self.chance(0.3)))
 
     def step(self, weights=(9, 4, 3, 2, 1)):
         """Mostly a call that fits the state."""

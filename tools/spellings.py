@@ -5,7 +5,7 @@
 
 WRITER is variant-script; the model is tools/model, or that of another FOLDER, and answers by the requests of document 02
 in SET, else by those that have landed (landed.py). A run is one random script: signs, underscores and leading zeros in
-numbers, `0x`, capitals, COUNTxHEX, tabs, comments, line ends of three kinds, dates, pokes of all fields, now and then another
+numbers, `0x`, capitals, COUNTxHEX, tabs, comments, line ends of three kinds, dates, packed decimal, pokes of all fields, now and then another
 `new`, one that is refused, and a line that is no call. Numbers of `new`, `finish` and pokes are those of the grammar, 0 to
 2^64 - 1. Every answer must be the model's; where the model cannot take a line, WRITER must stop there with status 2 and say
 which line it is.
@@ -56,6 +56,16 @@ def whole(rng):
     return rng.choice(["", "", "", "+", "-"]) + rng.choice(["0", "127", "0_1", "007", str(rng.getrandbits(rng.choice(BITS)))])
 
 
+def scale(rng):
+    return seldom(rng, ["256", "-1", "x"], ["0", "5", "38", "39", "+3", "255", "1_0"])
+
+
+def packed(rng):
+    """The bytes of packed decimal, mostly."""
+    return seldom(rng, ["5", "5g", "5c 5c"], ["", "0c", "5D", "00123F", "1_0x12", "5x00", "19x99", "20x9C", "21x0c", "5e", "Ac",
+                                              f"{rng.randrange(10**8):09}C", some_bytes(rng)])
+
+
 def date(rng):
     """Year, month and day, mostly a date's."""
     years, months, days = ("1", "1970", "+2024", "2_000", "09999", "0"), ("1", "2", "+12", "0_2", "00"), ("1", "28", "29", "+3_1", "030")
@@ -63,7 +73,7 @@ def date(rng):
 
 
 def scalar(rng, model, script):
-    kind = seldom(rng, ["scalar"], [*script.KINDS, *(script.CIVIL if "A2" in model.on else ())])
+    kind = seldom(rng, ["scalar"], [*script.KINDS, *(script.CIVIL if "A2" in model.on else ()), *["packed"] * ("A4" in model.on)])
     if kind in script.PLAIN:
         return kind
     if kind in script.INTEGERS:
@@ -71,7 +81,9 @@ def scalar(rng, model, script):
     if kind in script.BITS:
         return f"{kind} " + rng.choice(["", "", "+", "-0", "0x", "0X", "0x_"]) + rng.choice(["0", "1f", "FF", "3f800000", "1_f"])
     if kind in script.DECIMALS:
-        return f"{kind} " + rng.choice(["0", "5", "38", "39", "+3", "255", "1_0"]) + " " + whole(rng)
+        return f"{kind} {scale(rng)} {whole(rng)}"
+    if kind == "packed":
+        return f"{kind} {scale(rng)} {packed(rng)}"
     if kind in script.CIVIL:
         times = seldom(rng, [[], [whole(rng)] * 2], [[], []] if kind == "ymd" else [["0"], ["86_399_999_999"], [whole(rng)]])
         return " ".join([kind, *date(rng), *times])
@@ -80,10 +92,13 @@ def scalar(rng, model, script):
     return f"{kind} " + rng.choice(["", some_bytes(rng)])
 
 
-def beside(rng):
-    """A call that needs no builder."""
-    asked = rng.choice([" ".join(["days", *date(rng)]), "civil " + rng.choice(["-719_162", "+2932896", "2932897", whole(rng)])])
-    return seldom(rng, ["days", "days 1 1", "civil", "civil 1 2", asked + " 1"], [asked])
+def beside(rng, model):
+    """A call that needs no builder, in a list, or none."""
+    dates = [" ".join(["days", *date(rng)]), "civil " + rng.choice(["-719_162", "+2932896", "2932897", whole(rng)])]
+    out = rng.choice(["", " out=" + size(rng)])
+    decimals = [f"packdec {scale(rng)} {whole(rng)}{out}", f"readdec {scale(rng)} {packed(rng)}"]
+    asked = dates * ("A2" in model.on) + decimals * ("A4" in model.on)
+    return [seldom(rng, [rng.choice(asked) + " 1", rng.choice(asked).split()[0]], asked)] if asked else []
 
 
 def poke(rng, model):
@@ -107,7 +122,7 @@ def line(rng, model, script):
     text = seldom(rng, NO_CALLS, [
         appended, appended, appended, opened, opened, poked, poked, "register " + some_bytes(rng), "register", "close", "close",
         "rollback", "unique " + rng.choice("01"), "finish", "finish out=" + size(rng), "dump", "dumpvalue", "", "# nothing",
-        first_line(rng, model) if rng.random() < 0.3 else "close", *[beside(rng)] * ("A2" in model.on)])
+        first_line(rng, model) if rng.random() < 0.3 else "close", *beside(rng, model)])
     behind = rng.choice([" # said", "#said", "\t", "  ", "\v", " \f", "\x1c", "\u00a0"])
     return rng.choice([text, text, text, text + behind, text.replace(" ", "\t ")])
 

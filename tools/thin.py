@@ -21,6 +21,12 @@ def calls(text):
         yield m[2], ps, m[4], ' '.join(m[5].split()), m[1]
 
 
+def calling(bound, name, args):
+    """The lines of `let BOUND = NAME(ARGS);`, broken as `rt fmt` does."""
+    line = 'let %s = %s(%s);' % (bound, name, ', '.join(args))
+    return [line] if len(line) <= 90 else ['let %s = %s(' % (bound, name)] + ['    %s,' % a for a in args] + [');']
+
+
 def answer_type(result):
     return {'Called': 'Answer', 'FinishCalled': 'FinishAnswer'}[result]
 
@@ -74,9 +80,9 @@ def thin_code(fns):
                sorted(['builder::Answer', 'builder::FinishAnswer', 'semantics::Builder', *ENUM_USES]), RECORD,
                ['ghost use Rattle.builder.specs.Calls.{state};', 'ghost use Rattle.builder_mut.specs.Calls.{DoesThin, FinishesThin};'])
     for name, ps, result, contract, comment in fns:
-        call = 'builder::%s(%s)' % (name, ', '.join(['c'] + [p for p, _ in ps]))
+        call = calling('r', 'builder::' + name, ['c'] + [p for p, _ in ps])
         out += function('pub fn ' + name, '&mut Builder', ps, answer_type(result), thin_contract(contract), comment,
-                        ['let c = *b;', 'let r = %s;' % call, '*b = r.builder;', 'r.answer'])
+                        ['let c = *b;', *call, '*b = r.builder;', 'r.answer'])
     return '\n'.join(out) + '\n'
 
 
@@ -85,9 +91,9 @@ def bridge_code(fns):
                ['crate::thin', *sorted(['builder::Called', 'builder::FinishCalled', 'semantics::Builder', *ENUM_USES])], RECORD,
                ['ghost use Rattle.semantics.specs.Step.{step};', 'ghost use Rattle.builder.specs.Calls.{Does, Finishes, state};'])
     for name, ps, result, contract, _ in fns:
-        call = 'thin::%s(%s)' % (name, ', '.join(['&mut c'] + [p for p, _ in ps]))
+        call = calling('a', 'thin::' + name, ['&mut c'] + [p for p, _ in ps])
         out += function('pub(crate) fn %s_lent' % name, 'Builder', ps, result, contract, '',
-                        ['let mut c = b;', 'let a = %s;' % call, 'let d = c;', result + ' {', '    answer: a,', '    builder: d,', '}'])
+                        ['let mut c = b;', *call, 'let d = c;', result + ' {', '    answer: a,', '    builder: d,', '}'])
     return '\n'.join(out) + '\n'
 
 
@@ -127,6 +133,9 @@ def proof(name, ps, result, contract, bridge):
         if t == 'bool':
             uses.add('flag')
             ways.append('flag 𝓤 H A W')
+        elif t == 'u8':
+            uses.add('byte')
+            ways.append('byte 𝓤 H A W')
         elif t == '[u8; 16]':
             uses.add('bytes')
             ways.append('bytes 𝓤 H A W 16')

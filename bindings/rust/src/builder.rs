@@ -179,6 +179,14 @@ impl<'a> VariantBuilder<'a> {
         call!(self.variant_append_civil(named, name.as_ptr(), name.len(), code, date.year, date.month, date.day, time))
     }
 
+    /// Packed decimal: two digits a byte, high half first, and in the last low half C or F for plus, D for minus; 1 to 20 bytes. What is
+    /// appended is the smallest of the three decimals that holds the number, by its magnitude; otherwise as `append_value`. What is no packed
+    /// decimal is refused with 18, a magnitude or a scale too large with 7.
+    pub fn append_packed(&mut self, name: Option<&[u8]>, scale: u8, bytes: &[u8]) -> Result<(), Refusal> {
+        let (named, name) = (name.is_some(), name.unwrap_or_default());
+        call!(self.variant_append_packed(named, name.as_ptr(), name.len(), scale, bytes.as_ptr(), bytes.len()))
+    }
+
     /// A list, open until it is closed or rolled back.
     pub fn new_list(&mut self, name: Option<&[u8]>) -> Result<(), Refusal> {
         let (named, name) = (name.is_some(), name.unwrap_or_default());
@@ -289,7 +297,7 @@ mod tests {
         for number in 1..=u8::MAX {
             let refusal = answer(number).expect_err("a refusal");
             assert_eq!(refusal.number(), number);
-            assert_eq!(refusal == Refusal::Unknown(number), !matches!(number, 1..=17 | 24));
+            assert_eq!(refusal == Refusal::Unknown(number), !matches!(number, 1..=18 | 24));
             assert!(refusal.to_string().starts_with(&format!("refused {number}: ")));
         }
     }

@@ -20,6 +20,7 @@
 mod builder;
 mod date;
 mod listing;
+mod packed;
 mod refusal;
 pub mod sys;
 mod variant;
@@ -27,6 +28,7 @@ mod variant;
 pub use builder::{Buffer, Storage, VariantBuilder};
 pub use date::{Civil, Date};
 pub use listing::listing;
+pub use packed::write_packed_decimal;
 pub use refusal::Refusal;
 pub use variant::Variant;
 

@@ -54,10 +54,11 @@ rows! {
     11 TooDeep "64 containers are open"
     12 NamesFull "no room for a new name: the name table or the name bytes are full"
     13 EntriesFull "no room for a new entry of a list or an object"
-    14 ValueFull "no room for the value or the header in the value bytes"
+    14 ValueFull "no room for the value or the header in the value bytes, or for packed decimal in its output"
     15 NoValue "no value was written"
     16 OutputFull "the dictionary does not fit its output"
     17 OutOfCalendar "a date that is not in the calendar, years 1 to 9999, or with it a time outside the day"
+    18 NotPacked "packed decimal of no bytes or of more than 20, with a digit above 9 or with another sign"
     24 FloorOutOfRange "a floor for widths that is not 1 to 4 bytes: no builder is made"
 }
 

@@ -3,8 +3,8 @@
 //! # Safety
 //!
 //! A call demands nothing of what the words and the storage hold, and is proved for all of it. The caller owes what no proof of it
-//! can see: each pointer is valid for the call, for as many items as the length behind it says (the words: `WORDS`; a UUID: 16), for
-//! writing where it is `*mut`; and what is written overlaps nothing else that the call is given.
+//! can see: each pointer is valid for the call, for as many items as the length behind it says (the words: `WORDS`; a UUID: 16; a
+//! number: one), for writing where it is `*mut`; and what is written overlaps nothing else that the call is given.
 //!
 //! An answer is 0, or the number of a refusal (`Refusal`), and then all is as it was.
 use crate::WORDS;
@@ -70,6 +70,30 @@ extern "C" {
         month: i64,
         day: i64,
         time: i64,
+    ) -> u8;
+
+    /// Packed decimal, two digits a byte, and a scale. No bytes, more than 20, a digit above 9 or another sign than C, D and F are refused
+    /// with 18, then a magnitude or a scale too large with 7.
+    pub fn variant_append_packed(
+        words: Words,
+        value: *mut u8, value_len: usize,
+        text: *mut u8, text_len: usize,
+        ends: *mut usize, ends_len: usize,
+        entries: *mut usize, entries_len: usize,
+        named: bool,
+        name: *const u8, name_len: usize,
+        scale: u8,
+        bytes: *const u8, bytes_len: usize,
+    ) -> u8;
+
+    /// The shortest packed decimal of high * 2^64 + low at the start of `out`, its length into `written`. A magnitude or a scale too large is
+    /// refused with 7, then an output too short with 14.
+    pub fn variant_write_packed_decimal(
+        high: i64,
+        low: u64,
+        scale: u8,
+        out: *mut u8, out_len: usize,
+        written: *mut usize,
     ) -> u8;
 
     /// The day number of a date, counted from 1970-01-01, into `days`; refused with 17.

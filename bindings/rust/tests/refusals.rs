@@ -37,6 +37,7 @@ fn all_refused(number: u8, b: &mut VariantBuilder) {
     refused(number, b, |b| b.append_value(None, "a"));
     refused(number, b, |b| b.append_value(None, Variant::Uuid([0; 16])));
     refused(number, b, |b| b.append_civil(None, Date { year: 1970, month: 1, day: 1 }));
+    refused(number, b, |b| b.append_packed(None, 0, &[0x5c]));
     refused(number, b, |b| b.new_list(None));
     refused(number, b, |b| b.new_object(None));
     refused(number, b, |b| b.close());
@@ -118,6 +119,10 @@ fn arguments() {
     ] {
         refused(7, &mut b, |b| b.append_value(Some(b"a"), x));
     }
+    for packed in [&[][..], &[0x5e], &[0xac], &[0; 21]] {
+        refused(18, &mut b, |b| b.append_packed(Some(b"a"), 39, packed));
+    }
+    refused(7, &mut b, |b| b.append_packed(Some(b"a"), 39, &[0x5c]));
     for day in [0, 30] {
         refused(17, &mut b, |b| b.append_civil(Some(b"a"), Date { year: 2024, month: 2, day }));
     }

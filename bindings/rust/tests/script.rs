@@ -68,6 +68,30 @@ fn dates() {
     assert_eq!(answers(script), format!("new\n{}refused 17\nrefused 17\nok\nok value={value} dict=010000\n", "ok\n".repeat(4)));
 }
 
+#[test]
+fn packed_decimal() {
+    let script = "new\nopen list\nappend packed 1 04125C\nappend - packed +38 01234567890d\nappend packed 3 20x00\nappend packed 0\n\
+        append packed 39 5e\nappend packed 39 5f\nclose\nfinish\n";
+    let value = "0302 0006 10 20011d100000 2426 2efd69b6ffffffff".replace(' ', "");
+    assert_eq!(
+        answers(script),
+        format!("new\nok\nok\nok\nrefused 18\nrefused 18\nrefused 18\nrefused 7\nok\nok value={value} dict=010000\n")
+    );
+}
+
+/// They need no builder.
+#[test]
+fn packed_decimal_both_ways() {
+    let asked =
+        "packdec 0 0\npackdec 38 -1_0\npackdec 0 10 out=1\npackdec 39 10 out=1\npackdec 0 100000000000000000000000000000000000000\n\
+        readdec 3 000d\nreaddec 2 01000000000F\nreaddec 255 5c\nreaddec 0\nreaddec 0 340282366920938463463374607431768211461c\n\
+        readdec 0 099999999999999999999999999999999999999d\n";
+    let told = "ok 0c\nok 010d\nrefused 14\nrefused 7\nrefused 7\nok dec4 3 0\nok dec8 2 1000000000\nrefused 7\nrefused 18\nrefused 7\n\
+        ok dec16 0 -99999999999999999999999999999999999999\n";
+    assert_eq!(answers(asked), told);
+    assert_eq!(answers(&format!("new floor=0\n{asked}close\nnew\n{asked}")), format!("refused 24\n{told}no builder\nnew\n{told}"));
+}
+
 /// They need no builder.
 #[test]
 fn days_and_dates() {
@@ -145,6 +169,10 @@ append ymd 1970 1 1 0
 append ymdts 1970 1 1
 append ymdtsntz 1970 1 1 x
 append ymd 9223372036854775808 1 1
+append packed
+append packed 256 5c
+append packed 0 5
+append packed 0 5c 5c
 days
 days 1970 1
 days 1970 1 1 0
@@ -153,6 +181,17 @@ civil
 civil x
 civil 1 2
 civil 9223372036854775808
+packdec
+packdec 0
+packdec 256 5
+packdec 0 170141183460469231731687303715884105728
+packdec 0 5 6
+packdec 0 5 out=x
+packdec 0 5 out=1 out=2
+readdec
+readdec 256 5c
+readdec 0 5
+readdec 0 5c 5c
 append name=6 null
 open
 open 61 list

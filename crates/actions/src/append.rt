@@ -5,6 +5,7 @@ use crate::Moved;
 use crate::enter::enter_over;
 use crate::enter::note;
 use crate::own::civil_own;
+use crate::own::packed_own;
 use calendar::civil::Civil;
 use refusals::row;
 use semantics::View;
@@ -17,7 +18,7 @@ use value::variant::Variant;
 use value::variant::VariantBytes;
 use value::variant::ill_formed;
 use value::variant::out_of_range;
-ghost use Rattle.semantics.specs.Record.{Scalars, append as appendOf, bytes as bytesOf, civil, fixed, uuid as uuidOf, storageOf};
+ghost use Rattle.semantics.specs.Record.{Scalars, append as appendOf, bytes as bytesOf, civil, fixed, packed, uuid as uuidOf, storageOf};
 ghost use Rattle.refusals.specs.Decide.{nameOf};
 ghost use Rattle.actions.specs.Actions.{Leaves, StoredAs};
 
@@ -57,6 +58,27 @@ pub fn append_civil_over(
     let o = civil_own(x);
     let y = o.variant;
     append_own(v, value, text, ends, entries, named, name, y, o.number)
+}
+
+// Packed decimal, with a scale.
+pub fn append_packed_over(
+    v: View,
+    value: &mut [u8],
+    text: &mut [u8],
+    ends: &mut [usize],
+    entries: &mut [usize],
+    named: bool,
+    name: &[u8],
+    scale: u8,
+    bytes: &[u8],
+) -> Moved
+    ensures { λ r. ⌜ Leaves v (storageOf (now (value .entry)) (now (text .entry)) (now (ends .entry)) (now (entries .entry)))
+        (appendOf (nameOf named (now (name .entry))) (packed scale (now (bytes .entry)))) r
+        (storageOf (now (value .exit)) (now (text .exit)) (now (ends .exit)) (now (entries .exit))) ⌝ }
+{
+    let o = packed_own(bytes, scale);
+    let x = o.variant;
+    append_own(v, value, text, ends, entries, named, name, x, o.number)
 }
 
 // A scalar that is stored as one of fixed size, with its own number, 0 where it has none.

@@ -32,6 +32,7 @@ mod unique;
 
 pub use append::append_bytes_over;
 pub use append::append_civil_over;
+pub use append::append_packed_over;
 pub use append::append_uuid_over;
 pub use append::append_value_over;
 pub use dictionary::finish_over;
@@ -44,6 +45,7 @@ pub use open::open_over;
 pub use open::register;
 pub use own::Own;
 pub use own::civil_own;
+pub use own::packed_own;
 use semantics::Container;
 use semantics::Counts;
 pub use undo::rollback_over;

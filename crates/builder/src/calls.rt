@@ -10,6 +10,7 @@ use crate::view::called_with;
 use crate::view::view_of;
 use actions::append_bytes_over;
 use actions::append_civil_over;
+use actions::append_packed_over;
 use actions::append_uuid_over;
 use actions::append_value_over;
 use actions::close_over;
@@ -24,7 +25,7 @@ use value::variant::Variant;
 use value::variant::VariantBytes;
 ghost use mathlib.Core.Path.{_≡_};
 ghost use mathlib.Core.Bool.{false, true};
-ghost use Rattle.semantics.specs.Record.{append as appendOf, bytes as bytesOf, civil, close as closeOf, finish as finishOf, fixed, openIn, register as registerOf, rollBack, uniqueness, uuid as uuidOf, storageOf};
+ghost use Rattle.semantics.specs.Record.{append as appendOf, bytes as bytesOf, civil, close as closeOf, finish as finishOf, fixed, openIn, packed, register as registerOf, rollBack, uniqueness, uuid as uuidOf, storageOf};
 ghost use Rattle.semantics.specs.Step.{step};
 ghost use Rattle.refusals.specs.Decide.{nameOf};
 ghost use Rattle.builder.specs.Calls.{Does, Finishes, finishAnswer, state};
@@ -84,6 +85,27 @@ pub fn append_civil(
 {
     let v = view_of(b);
     let r = append_civil_over(v, value, text, ends, entries, named, name, x);
+    called(b, r)
+}
+
+// Packed decimal, two digits a byte, and a scale: the smallest of the three decimals that holds the number.
+pub fn append_packed(
+    b: Builder,
+    value: &mut [u8],
+    text: &mut [u8],
+    ends: &mut [usize],
+    entries: &mut [usize],
+    named: bool,
+    name: &[u8],
+    scale: u8,
+    bytes: &[u8],
+) -> Called
+    ensures { λ r. ⌜ Does r (storageOf (now (value .exit)) (now (text .exit)) (now (ends .exit)) (now (entries .exit)))
+        (step (state b (storageOf (now (value .entry)) (now (text .entry)) (now (ends .entry)) (now (entries .entry))))
+        (appendOf (nameOf named (now (name .entry))) (packed scale (now (bytes .entry))))) ⌝ }
+{
+    let v = view_of(b);
+    let r = append_packed_over(v, value, text, ends, entries, named, name, scale, bytes);
     called(b, r)
 }
 

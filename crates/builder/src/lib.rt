@@ -24,6 +24,7 @@ mod view;
 pub use calls::add_field_name;
 pub use calls::append_bytes;
 pub use calls::append_civil;
+pub use calls::append_packed;
 pub use calls::append_uuid;
 pub use calls::append_value;
 pub use calls::close;

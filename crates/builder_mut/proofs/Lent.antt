@@ -6,7 +6,7 @@
 --     allocs-ps, allocs-ts, passes-ps, lends-ps, opds-under, frees-ps, frees-ts     the walk: the locals are allocated, the arguments
 --                      stored, the temporaries filled, the operands read, the locals freed
 --     Way R            how a parameter of the type R is passed on: its machine value, its `Param`, and that the `Param` fits
---     lent-slice, shr-slice, flag, bytes, enum     a `&mut [T]`, a `&[T]`, and plain data by value
+--     lent-slice, shr-slice, flag, byte, bytes, enum     a `&mut [T]`, a `&[T]`, and plain data by value
 --     Ways, spellsOf, tellsOf, paramsOf, fitsOf    for a list of types
 -- Assumes `Given`.
 use mathlib.Core.Path.{_≡_, refl, sym, subst}
@@ -263,6 +263,9 @@ module _ {M : Type 1} (𝓤 : URA M) (H : Heap 𝓤) (A : Atoms 𝓤) (W : Given
 
   abbrev pub flag : Way Boolean
   flag = by-value Boolean tyBool refl vbool bool-tells (bool-lawful 𝓤 H A W)
+
+  abbrev pub byte : Way (UInt w8)
+  byte = by-value (UInt w8) (tyInt w8) refl (λ x. only (uint-vals w8 x)) (uint-tells w8) (uint-lawful 𝓤 H A W w8)
 
   abbrev pub bytes : (n : ℕ) → Way (Array (UInt w8) n)
   bytes n = by-value (Array (UInt w8) n) (tyArray (tyInt w8) n) refl (λ xs. only (array-vals (uint-vals w8) xs)) (array-tells (UInt w8) (uint-vals w8) (uint-tells w8) n) (array-lawful 𝓤 H A W (UInt w8) (uint-lawful 𝓤 H A W w8) n)

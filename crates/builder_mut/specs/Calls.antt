@@ -5,7 +5,7 @@ use mathlib.Core.List.{List}
 use Prim.Native.Nat.{ℕ}
 use Rattle.metadata.specs.Names.{Name}
 use Rattle.semantics.specs.declared.Builder.{Builder}
-use Rattle.semantics.specs.Record.{Storage, State, Call, register, append, openIn, close, rollBack, uniqueness, finish, fixed, civil, bytes, uuid}
+use Rattle.semantics.specs.Record.{Storage, State, Call, register, append, openIn, close, rollBack, uniqueness, finish, fixed, civil, packed, bytes, uuid}
 use Rattle.semantics.specs.Step.{Outcome, step}
 use Rattle.refusals.specs.Decide.{nameOf}
 use Rattle.builder.specs.declared.Answer.{Answer}
@@ -43,6 +43,7 @@ callOf asked.Rollback named name bs id out = rollBack
 callOf (asked.WithValidateUniqueFields u) named name bs id out = uniqueness u
 callOf asked.Finish named name bs id out = finish out
 callOf (asked.AppendCivil x) named name bs id out = append (nameOf named name) (civil x)
+callOf (asked.AppendPacked scale) named name bs id out = append (nameOf named name) (packed scale bs)
 
 -- the output then: finish's is the step's, any other call leaves it as it was
 abbrev pub outputAfter : Call → List ℕ → List ℕ → List ℕ

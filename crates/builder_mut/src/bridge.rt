@@ -8,7 +8,7 @@ use value::variant::Variant;
 use value::variant::VariantBytes;
 ghost use mathlib.Core.Path.{_≡_};
 ghost use mathlib.Core.Bool.{false, true};
-ghost use Rattle.semantics.specs.Record.{append as appendOf, bytes as bytesOf, civil, close as closeOf, finish as finishOf, fixed, openIn, register as registerOf, rollBack, uniqueness, uuid as uuidOf, storageOf};
+ghost use Rattle.semantics.specs.Record.{append as appendOf, bytes as bytesOf, civil, close as closeOf, finish as finishOf, fixed, openIn, packed, register as registerOf, rollBack, uniqueness, uuid as uuidOf, storageOf};
 ghost use Rattle.refusals.specs.Decide.{nameOf};
 ghost use Rattle.semantics.specs.Step.{step};
 ghost use Rattle.builder.specs.Calls.{Does, Finishes, state};
@@ -76,6 +76,41 @@ pub(crate) fn append_civil_lent(
 {
     let mut c = b;
     let a = thin::append_civil(&mut c, value, text, ends, entries, named, name, x);
+    let d = c;
+    Called {
+        answer: a,
+        builder: d,
+    }
+}
+
+pub(crate) fn append_packed_lent(
+    b: Builder,
+    value: &mut [u8],
+    text: &mut [u8],
+    ends: &mut [usize],
+    entries: &mut [usize],
+    named: bool,
+    name: &[u8],
+    scale: u8,
+    bytes: &[u8],
+) -> Called
+    ensures { λ r. ⌜ Does r
+        (storageOf (now (value .exit)) (now (text .exit)) (now (ends .exit)) (now (entries .exit)))
+        (step (state b (storageOf (now (value .entry)) (now (text .entry)) (now (ends .entry)) (now (entries .entry))))
+        (appendOf (nameOf named (now (name .entry))) (packed scale (now (bytes .entry))))) ⌝ }
+{
+    let mut c = b;
+    let a = thin::append_packed(
+        &mut c,
+        value,
+        text,
+        ends,
+        entries,
+        named,
+        name,
+        scale,
+        bytes,
+    );
     let d = c;
     Called {
         answer: a,

@@ -4,6 +4,7 @@ use crate::LendCalled;
 use crate::bridge::add_field_name_lent;
 use crate::bridge::append_bytes_lent;
 use crate::bridge::append_civil_lent;
+use crate::bridge::append_packed_lent;
 use crate::bridge::append_uuid_lent;
 use crate::bridge::append_value_lent;
 use crate::bridge::close_lent;
@@ -65,6 +66,10 @@ pub fn lend(
         Call::Finish => finished(finish_lent(b, value, text, ends, entries, out)),
         Call::AppendCivil(x) => {
             let c = append_civil_lent(b, value, text, ends, entries, named, name, x);
+            lent(c)
+        }
+        Call::AppendPacked(scale) => {
+            let c = append_packed_lent(b, value, text, ends, entries, named, name, scale, bytes);
             lent(c)
         }
     }

@@ -28,6 +28,7 @@ use semantics::Builder;
 pub use thin::add_field_name;
 pub use thin::append_bytes;
 pub use thin::append_civil;
+pub use thin::append_packed;
 pub use thin::append_uuid;
 pub use thin::append_value;
 pub use thin::close;
@@ -52,6 +53,7 @@ pub enum Call {
     WithValidateUniqueFields(bool),
     Finish,
     AppendCivil(Civil),
+    AppendPacked(u8),
 }
 
 // A call's number, 0 where it was carried out; the bytes that a finish wrote; the builder then.

@@ -8,7 +8,7 @@ use value::variant::Variant;
 use value::variant::VariantBytes;
 ghost use mathlib.Core.Path.{_≡_};
 ghost use mathlib.Core.Bool.{false, true};
-ghost use Rattle.semantics.specs.Record.{append as appendOf, bytes as bytesOf, civil, close as closeOf, finish as finishOf, fixed, openIn, register as registerOf, rollBack, uniqueness, uuid as uuidOf, storageOf};
+ghost use Rattle.semantics.specs.Record.{append as appendOf, bytes as bytesOf, civil, close as closeOf, finish as finishOf, fixed, openIn, packed, register as registerOf, rollBack, uniqueness, uuid as uuidOf, storageOf};
 ghost use Rattle.refusals.specs.Decide.{nameOf};
 ghost use Rattle.builder.specs.Calls.{state};
 ghost use Rattle.builder_mut.specs.Calls.{DoesThin, FinishesThin};
@@ -73,6 +73,29 @@ pub fn append_civil(
 {
     let c = *b;
     let r = builder::append_civil(c, value, text, ends, entries, named, name, x);
+    *b = r.builder;
+    r.answer
+}
+
+// Packed decimal, two digits a byte, and a scale: the smallest of the three decimals that holds the number.
+pub fn append_packed(
+    b: &mut Builder,
+    value: &mut [u8],
+    text: &mut [u8],
+    ends: &mut [usize],
+    entries: &mut [usize],
+    named: bool,
+    name: &[u8],
+    scale: u8,
+    bytes: &[u8],
+) -> Answer
+    ensures { λ r. ⌜ DoesThin r (now (b .exit))
+        (storageOf (now (value .exit)) (now (text .exit)) (now (ends .exit)) (now (entries .exit)))
+        (state (now (b .entry)) (storageOf (now (value .entry)) (now (text .entry)) (now (ends .entry)) (now (entries .entry))))
+        (appendOf (nameOf named (now (name .entry))) (packed scale (now (bytes .entry)))) ⌝ }
+{
+    let c = *b;
+    let r = builder::append_packed(c, value, text, ends, entries, named, name, scale, bytes);
     *b = r.builder;
     r.answer
 }

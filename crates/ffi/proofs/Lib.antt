@@ -5,3 +5,4 @@ pub mod CodeLaws
 pub mod CallLaws
 pub mod ChainLaws
 pub mod DateLaws
+pub mod PackedLaws

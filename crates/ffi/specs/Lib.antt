@@ -2,3 +2,4 @@
 pub mod Words
 pub mod Scalars
 pub mod Dates
+pub mod Packed

@@ -36,6 +36,7 @@ use actions::close_over;
 use actions::enter_over;
 use actions::finish_over;
 use actions::note;
+use actions::packed_own;
 use actions::rollback_over;
 use actions::unique_over;
 use refusals::make_number;
@@ -53,7 +54,7 @@ use value::variant::out_of_range;
 ghost use mathlib.Core.Path.{_≡_};
 ghost use mathlib.Core.Bool.{false, true};
 ghost use lib.ListN.{length};
-ghost use Rattle.semantics.specs.Record.{Scalars, append as appendOf, close as closeOf, fixed, openIn, register as registerOf, rollBack, uniqueness, uuid as uuidOf, storageOf};
+ghost use Rattle.semantics.specs.Record.{Scalars, append as appendOf, close as closeOf, fixed, openIn, packed, register as registerOf, rollBack, uniqueness, uuid as uuidOf, storageOf};
 ghost use Rattle.refusals.specs.Decide.{nameOf};
 ghost use Rattle.actions.specs.Actions.{StoredAs};
 ghost use Rattle.ffi.specs.Dates.{civilBy, dateOf};
@@ -192,6 +193,29 @@ pub extern "C" fn variant_append_civil(
     let s = civil_by(code, year, month, day, time);
     let x = s.variant;
     append_own(words, value, text, ends, entries, named, name, x, s.number)
+}
+
+// Packed decimal, two digits a byte, and a scale: the smallest of the three decimals that holds the number.
+#[no_mangle]
+pub extern "C" fn variant_append_packed(
+    words: &mut [usize; WORDS],
+    value: &mut [u8],
+    text: &mut [u8],
+    ends: &mut [usize],
+    entries: &mut [usize],
+    named: bool,
+    name: &[u8],
+    scale: u8,
+    bytes: &[u8],
+) -> u8
+    ensures { λ r. ⌜ DoesWords r (now (words .entry)) (now (words .exit))
+        (storageOf (now (value .entry)) (now (text .entry)) (now (ends .entry)) (now (entries .entry)))
+        (storageOf (now (value .exit)) (now (text .exit)) (now (ends .exit)) (now (entries .exit)))
+        (appendOf (nameOf named (now (name .entry))) (packed scale (now (bytes .entry)))) ⌝ }
+{
+    let o = packed_own(bytes, scale);
+    let x = o.variant;
+    append_own(words, value, text, ends, entries, named, name, x, o.number)
 }
 
 // A scalar that is stored as one of fixed size, with its own number, 0 where it has none.

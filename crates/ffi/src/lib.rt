@@ -10,6 +10,7 @@
 // is passed as a pointer and a length.
 mod calls;
 mod dates;
+mod packed;
 mod scalars;
 mod words;
 

@@ -14,7 +14,7 @@ use Rattle.encoding.proofs.RowsLaws.{first-exact, first-listed, first-none, cle
 use Rattle.value.specs.Scalar.{scalarBytes}
 use Rattle.metadata.specs.Names.{Name}
 use Rattle.semantics.specs.declared.View.{View}
-use Rattle.semantics.specs.Record.{Storage, State, viewOf, Scalars, fixed, civil, bytes, uuid, Call, register, append, openIn, close, rollBack, uniqueness, finish, scalarOf, goodFloor}
+use Rattle.semantics.specs.Record.{Storage, State, viewOf, Scalars, fixed, civil, packed, bytes, uuid, Call, register, append, openIn, close, rollBack, uniqueness, finish, scalarOf, goodFloor}
 use Rattle.semantics.specs.Damage.{overUsed, unchained, badFloor, misread, damaged}
 use Rattle.semantics.specs.Table.{scalarRows, frontRows, backRows, appendRows, rows, makeRows, numberOf}
 use Rattle.semantics.specs.Step.{step, lentOutput}
@@ -24,6 +24,7 @@ pub in-order : (v : View) (l : Storage) (c : Call) → inOrder order (rows v l c
 in-order v l (register n) = refl
 in-order v l (append nm (fixed x)) = refl
 in-order v l (append nm (civil x)) = refl
+in-order v l (append nm (packed scale bs)) = refl
 in-order v l (append nm (bytes k bs)) = refl
 in-order v l (append nm (uuid bs)) = refl
 in-order v l (openIn nm k) = refl
@@ -40,6 +41,7 @@ make-order floor = refl
 pub scalar-order : (x : Scalars) → inOrder order (scalarRows x) ≡ true
 scalar-order (fixed x) = refl
 scalar-order (civil x) = refl
+scalar-order (packed scale bs) = refl
 scalar-order (bytes k bs) = refl
 scalar-order (uuid bs) = refl
 

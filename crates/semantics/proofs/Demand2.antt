@@ -14,7 +14,7 @@ use Rattle.encoding.specs.Slices.{write}
 use Rattle.encoding.proofs.RowsLaws.{first-unlisted}
 use Rattle.metadata.specs.Bytes.{dictionary, dictionaryNames}
 use Rattle.semantics.specs.declared.Container.{Container}
-use Rattle.semantics.specs.Record.{State, viewOf, fixed, civil, bytes, uuid, Call, register, append, openIn, close, rollBack, uniqueness, finish}
+use Rattle.semantics.specs.Record.{State, viewOf, fixed, civil, packed, bytes, uuid, Call, register, append, openIn, close, rollBack, uniqueness, finish}
 use Rattle.semantics.specs.Step.{step, after, finished, dictionaryOf}
 use Rattle.semantics.specs.Tree.{Tree, encode}
 use Rattle.semantics.specs.Ledger.{Lent, Account, refusalOf, refusalRows}
@@ -35,6 +35,7 @@ refusals-in-order : (a : Account) (lent : Lent) (c : Call) → inOrder (behind 1
 refusals-in-order a lent (register n) = refl
 refusals-in-order a lent (append nm (fixed x)) = refl
 refusals-in-order a lent (append nm (civil x)) = refl
+refusals-in-order a lent (append nm (packed scale bs)) = refl
 refusals-in-order a lent (append nm (bytes k bs)) = refl
 refusals-in-order a lent (append nm (uuid bs)) = refl
 refusals-in-order a lent (openIn nm k) = refl

@@ -16,11 +16,12 @@ use Rattle.value.specs.declared.variant.VariantBytes.the-variants.{Binary, Stri
 use Rattle.value.specs.Scalar.{short, scalarBytes, long, plain, storedBytes, Whole}
 use Rattle.value.proofs.ScalarParse.{stored-whole, uuid-whole, bytes-whole}
 use Rattle.calendar.specs.Answers.{civilVariant}
+use Rattle.packed_decimal.specs.PackedDecimal.{packedVariant}
 use Rattle.metadata.specs.Names.{Name, same, place}
 use Rattle.metadata.proofs.DictionaryLaws.{same-differs, place-low, place-added, Distinct, distinct-none, distinct-added, distinct-front}
 use Rattle.container.proofs.SortLaws.{Mem}
 use Rattle.semantics.specs.declared.View.{View}
-use Rattle.semantics.specs.Record.{State, Scalars, fixed, civil, bytes, uuid, inObject, Call, register, append, openIn, close, rollBack, uniqueness, finish, scalarOf, sixteen}
+use Rattle.semantics.specs.Record.{State, Scalars, fixed, civil, packed, bytes, uuid, inObject, Call, register, append, openIn, close, rollBack, uniqueness, finish, scalarOf, sixteen}
 use Rattle.semantics.specs.Tree.{Mark, element, live, replaced, Tree, scalar, nest, Items, empty, item, encode}
 use Rattle.semantics.specs.History.{Level, History, noHistory, withName, unlive, replace, snoc, entered, enter, closeLevel, dropLevel, accepted, fed}
 use Rattle.semantics.specs.Run.{refused, historyFrom, historyOf, kept}
@@ -451,6 +452,7 @@ pub scalar-whole : (v : Scalars) → length (scalarBytes (scalarOf v)) < 256 ^ 4
 unfolding scalarBytes
 scalar-whole (fixed v) h = stored-whole v
 scalar-whole (civil x) h = stored-whole (civilVariant x)
+scalar-whole (packed scale bs) h = stored-whole (packedVariant bs scale)
 scalar-whole (bytes k bs) h = bytes-whole k bs (omega (arith, length-bytes k bs))
 scalar-whole (uuid bs) h =
     let n = length-append bs (replicate 16 0) in

@@ -9,7 +9,7 @@ use lib.ListN.{take}
 use borrow.Author.Tests.{eqb-true, eqb-false}
 use Rattle.encoding.specs.Rows.{first, testOf, Clear, order, inOrder}
 use Rattle.encoding.proofs.RowsLaws.{first-none, clear-at}
-use Rattle.semantics.specs.Record.{State, viewOf, fixed, civil, bytes, uuid, Call, register, append, openIn, close, rollBack, uniqueness, finish}
+use Rattle.semantics.specs.Record.{State, viewOf, fixed, civil, packed, bytes, uuid, Call, register, append, openIn, close, rollBack, uniqueness, finish}
 use Rattle.semantics.specs.Step.{step, after, outputOf, writtenBy}
 use Rattle.semantics.specs.History.{accepted, fed}
 use Rattle.semantics.specs.Ledger.{Lent, Account, refusalOf}
@@ -26,6 +26,7 @@ rows-in-order : (m : Machine) (lent : Lent) (c : Call) → inOrder order (rowsAt
 rows-in-order m lent (register n) = refl
 rows-in-order m lent (append nm (fixed x)) = refl
 rows-in-order m lent (append nm (civil x)) = refl
+rows-in-order m lent (append nm (packed scale bs)) = refl
 rows-in-order m lent (append nm (bytes k bs)) = refl
 rows-in-order m lent (append nm (uuid bs)) = refl
 rows-in-order m lent (openIn nm k) = refl

@@ -10,6 +10,7 @@ use Rattle.value.specs.declared.variant.VariantBytes.{VariantBytes}
 use Rattle.value.specs.Scalar.{Scalar, storedVariant, storedBytes, storedUuid}
 use Rattle.calendar.specs.declared.civil.Civil.{Civil}
 use Rattle.calendar.specs.Answers.{civilVariant}
+use Rattle.packed_decimal.specs.PackedDecimal.{packedVariant}
 use Rattle.metadata.specs.Names.{Name, namesOf}
 use Rattle.container.specs.Entries.{entriesOf}
 use Rattle.container.specs.declared.Entry.{Entry}
@@ -35,10 +36,12 @@ pub record State : Type 0 where
 
 -- ---- the calls, with their arguments as the caller gave them
 
--- what is appended; document 02, A2: "appending of a date, and of the two microsecond timestamps, from a Gregorian date and a time of day"
+-- what is appended; document 02, A2: "appending of a date, and of the two microsecond timestamps, from a Gregorian date and a time of day"; A4:
+-- "packed decimal", "The writer takes those bytes and a scale"
 pub data Scalars : Type 0 where
   fixed : Variant → Scalars
   civil : Civil → Scalars
+  packed : ℕ → List ℕ → Scalars
   bytes : VariantBytes → List ℕ → Scalars
   uuid : List ℕ → Scalars
 
@@ -61,6 +64,7 @@ sixteen bs = take 16 (bs ++ replicate 16 0)
 abbrev pub scalarOf : Scalars → Scalar
 scalarOf (fixed v) = storedVariant v
 scalarOf (civil x) = storedVariant (civilVariant x)
+scalarOf (packed scale bs) = storedVariant (packedVariant bs scale)
 scalarOf (bytes k bs) = storedBytes k bs
 scalarOf (uuid bs) = storedUuid (sixteen bs)
 

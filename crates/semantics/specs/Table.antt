@@ -11,6 +11,7 @@ use Rattle.encoding.specs.Utf8.{utf8}
 use Rattle.value.specs.Decimal.{outOfRange}
 use Rattle.value.specs.Scalar.{illFormed, scalarBytes}
 use Rattle.calendar.specs.Answers.{civilRows}
+use Rattle.packed_decimal.specs.Calls.{packedRows}
 use Rattle.metadata.specs.Names.{Name, place, fieldNames, textSize}
 use Rattle.metadata.specs.Bytes.{sizeOf}
 use Rattle.metadata.specs.Calls.{hasRoom}
@@ -18,7 +19,7 @@ use Rattle.container.specs.Entries.{idsOf, offsetsOf, roomFor, seek}
 use Rattle.container.specs.Layout.{listHeader, objectHeader}
 use Rattle.container.specs.Sort.{sort}
 use Rattle.semantics.specs.declared.View.{View}
-use Rattle.semantics.specs.Record.{Storage, Scalars, fixed, civil, bytes, uuid, Call, register, append, openIn, close, rollBack, uniqueness, finish, scalarOf, goodFloor, isOpen, inObject, innerSize, innerEntries, namesHeld, uniqueNow}
+use Rattle.semantics.specs.Record.{Storage, Scalars, fixed, civil, packed, bytes, uuid, Call, register, append, openIn, close, rollBack, uniqueness, finish, scalarOf, goodFloor, isOpen, inObject, innerSize, innerEntries, namesHeld, uniqueNow}
 use Rattle.semantics.specs.Damage.{misreadBy, misread, damaged}
 
 -- ---- the rows' tests
@@ -32,11 +33,12 @@ misnamed (some n) v = not (inObject v)
 abbrev pub secondTop : View → Bool
 secondTop v = not (isOpen v) && ltb 0 (v .counts .value)
 
--- a scalar's own: 7, "decimal or time outside its range"; of a date 17 (document 02, A2), "directly after 7", "in 7's stead" for its time; and 8,
--- "text not UTF-8, or an explicit short text over 63 bytes"
+-- a scalar's own: 7, "decimal or time outside its range"; of a date 17 (document 02, A2), "directly after 7", "in 7's stead" for its time; of packed
+-- decimal 18 (A4), "directly before 7", and 7; and 8, "text not UTF-8, or an explicit short text over 63 bytes"
 abbrev pub scalarRows : Scalars → List Row
 scalarRows (fixed x) = row 7 (outOfRange x) ∷ []
 scalarRows (civil x) = civilRows x
+scalarRows (packed scale bs) = packedRows bs scale
 scalarRows (bytes k bs) = row 8 (illFormed k bs) ∷ []
 scalarRows (uuid bs) = []
 

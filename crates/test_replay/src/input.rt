@@ -59,7 +59,7 @@ fn floor_of(b: &[u8; 20]) -> usize {
 pub fn read_header() -> Header {
     let mut b = [0u8; 10];
     let whole = field(&mut b, 10);
-    if !whole | (b[0] == 0) | (13 < b[0]) | (4 < b[4]) {
+    if !whole | (b[0] == 0) | (14 < b[0]) | (4 < b[4]) {
         b[8] = 255;
     }
     Header {

@@ -23,6 +23,7 @@ pub fn call_of(h: Header, operand: &[u8]) -> Call {
         8 => Call::AppendUuid,
         9 => Call::AppendValue(scalar(argument, operand)),
         13 => Call::AppendCivil(civil(argument, operand)),
+        14 => Call::AppendPacked(argument),
         _ => Call::Finish,
     }
 }

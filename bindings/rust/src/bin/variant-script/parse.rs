@@ -14,7 +14,7 @@ fn integer(word: &str, base: u32) -> Option<i128> {
 }
 
 /// A number of so many bits, with a sign.
-fn signed(word: &str, bits: u32) -> Expected<i128> {
+pub fn signed(word: &str, bits: u32) -> Expected<i128> {
     let top = i128::MAX >> (128 - bits);
     integer(word, 10).filter(|n| (-top - 1..=top).contains(n)).ok_or_else(|| format!("a number of {bits} bits, with a sign, for {word:?}"))
 }
@@ -117,8 +117,17 @@ fn unknown(words: &[&str]) -> String {
     format!("a scalar (as `null`, `int8 N`, `dec4 SCALE N`, `text BYTES`) for {:?}", words.join(" "))
 }
 
-fn scale(word: &str) -> Expected<u8> {
+pub fn scale(word: &str) -> Expected<u8> {
     unsigned(word)?.try_into().map_err(|_| format!("a scale from 0 to 255 for {word:?}"))
+}
+
+/// The scale and the bytes of packed decimal.
+pub fn packed(words: &[&str]) -> Expected<(u8, Vec<u8>)> {
+    match *words {
+        [s] => Ok((scale(s)?, Vec::new())),
+        [s, word] => Ok((scale(s)?, bytes(word)?)),
+        _ => Err(format!("SCALE [BYTES] for {:?}", words.join(" "))),
+    }
 }
 
 /// A scalar that has bytes.

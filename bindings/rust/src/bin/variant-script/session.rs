@@ -1,10 +1,11 @@
 //! A run of calls: each line's call made, and its answer worded.
-use crate::parse::{bytes, civil, name, room, scalar, unsigned, Expected};
+use crate::parse::{bytes, civil, name, packed, room, scalar, unsigned, Expected};
 use crate::{beside, poke};
 use std::fmt::Write;
 use variant_writer::{listing, Refusal, VariantBuilder};
 
-const VERBS: &str = "a call: new, register, append, open, close, rollback, unique, finish, days, civil, poke, dump or dumpvalue";
+const VERBS: &str =
+    "a call: new, register, append, open, close, rollback, unique, finish, days, civil, packdec, readdec, poke, dump or dumpvalue";
 const SETTINGS: [&str; 7] = ["unique", "value", "namebytes", "names", "entries", "fill", "floor"];
 
 pub struct Session {
@@ -134,6 +135,10 @@ fn append(b: &mut VariantBuilder, rest: &[&str]) -> Expected<Result<(), Refusal>
     let name = name.as_deref();
     Ok(match words {
         ["ymd" | "ymdts" | "ymdtsntz", ..] => b.append_civil(name, civil(words)?),
+        ["packed", words @ ..] => {
+            let (scale, bytes) = packed(words)?;
+            b.append_packed(name, scale, &bytes)
+        }
         _ => b.append_value(name, scalar(words, &mut Vec::new())?),
     })
 }
@@ -149,11 +154,7 @@ fn close(b: &mut VariantBuilder) -> Result<(), Refusal> {
 }
 
 fn finish(b: &mut VariantBuilder, rest: &[&str], list: bool, out: &mut String) -> Expected<()> {
-    let [size] = settings(rest, &["out"], [4096])?;
-    if !room::<u8>(size) {
-        return Err("an output of a size that memory has".into());
-    }
-    let mut dictionary = vec![0; size];
+    let mut dictionary = output(rest)?;
     let finished = b.finish(&mut dictionary);
     let Ok(written) = finished else {
         word(finished.map(|_| ()), out);
@@ -169,6 +170,15 @@ fn finish(b: &mut VariantBuilder, rest: &[&str], list: bool, out: &mut String) -
         out.push_str(&listing(b.value(), dictionary).unwrap_or("no listing: the bytes are no Variant\n".into()));
     }
     Ok(())
+}
+
+/// The output of a call, of the size that it says.
+pub fn output(rest: &[&str]) -> Expected<Vec<u8>> {
+    let [size] = settings(rest, &["out"], [4096])?;
+    if !room::<u8>(size) {
+        return Err("an output of a size that memory has".into());
+    }
+    Ok(vec![0; size])
 }
 
 fn word(answer: Result<(), Refusal>, out: &mut String) {

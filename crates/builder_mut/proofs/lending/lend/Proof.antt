@@ -3,7 +3,7 @@ use borrow.Author.Needs.{needs}
 use mathlib.Core.Path.{refl}
 use Rattle.semantics.specs.Record.{State, storageOf}
 use Rattle.builder.specs.Calls.{state}
-use Rattle.builder_mut.specs.declared.Call.the-variants.{AddFieldName, AppendValue, AppendBytes, AppendUuid, NewList, NewObject, Close, Rollback, WithValidateUniqueFields, Finish, AppendCivil}
+use Rattle.builder_mut.specs.declared.Call.the-variants.{AddFieldName, AppendValue, AppendBytes, AppendUuid, NewList, NewObject, Close, Rollback, WithValidateUniqueFields, Finish, AppendCivil, AppendPacked}
 use Rattle.builder_mut.proofs.LendLaws.{lends, finishes}
 use Rattle.builder_mut.proofs.lending.lend.Statement.{statement}
 use Rattle.builder_mut.proofs.lending.lend.Tie as tie
@@ -111,10 +111,22 @@ returns-11 c =
     let after = storageOf (l .append-civil-lent .last .1 .0) (l .append-civil-lent .last .1 .1 .0) (l .append-civil-lent .last .1 .1 .1 .0) (l .append-civil-lent .last .1 .1 .1 .1 .0) in
     lends (entry s) (a .named) (a .name .now) (a .bytes .now) (a .uuid) (a .out .now) (AppendCivil (t .call4 .given .0 .0)) (t .call4 .given .1) {after = after} refl refl (l .append-civil-lent .ensures) (c .lent10 .ensures)
 
+returns-12 : tie.Need-returns-12
+returns-12 c =
+    let l = c .before .before .before .before .before .before .before .before .before in
+    let t = l .before .before .before .before .before .before in
+    let s = t .before .before .before .before .before .before .before .before .before in
+    let a = s .args in
+    let after = storageOf (l .append-packed-lent .last .1 .0) (l .append-packed-lent .last .1 .1 .0) (l .append-packed-lent .last .1 .1 .1 .0) (l .append-packed-lent .last .1 .1 .1 .1 .0) in
+    lends (entry s) (a .named) (a .name .now) (a .bytes .now) (a .uuid) (a .out .now) (AppendPacked (t .call5 .given .0 .0)) (t .call5 .given .1) {after = after} refl refl (l .append-packed-lent .ensures) (c .lent11 .ensures)
+
 pub lend-spec : {M : Type 1} → statement M
 lend-spec =
     tie.close
     (tie.spec (λ c. search needs)
+    (λ c κs. search needs)
+    (λ c κs. search needs)
+    (λ c. search needs)
     (λ c κs. search needs)
     (λ c κs. search needs)
     (λ c. search needs)
@@ -202,4 +214,9 @@ lend-spec =
     (λ c. search needs)
     (λ c. search needs)
     (λ c. search needs)
-    returns-11)
+    returns-11
+    (λ c. search needs)
+    (λ c. search needs)
+    (λ c. search needs)
+    (λ c. search needs)
+    returns-12)

@@ -1,0 +1,27 @@
+use borrow.Author.Needs.{needs}
+use mathlib.Core.Path.{refl}
+use Rattle.refusals.specs.Decide.{nameOf}
+use Rattle.builder.proofs.CallLaws.{does-moved}
+use Rattle.semantics.specs.Record.{append, packed, storageOf}
+use Rattle.builder.proofs.calls.append_packed.Statement.{statement}
+use Rattle.builder.proofs.calls.append_packed.Tie as tie
+
+returns : tie.Need-returns
+returns c =
+    let r = c .before .before .before .before .before .before .before .before .before in
+    let v = r .before .before .before .before .before in
+    let a = v .before .before .before .before .before .before .before .args in
+    does-moved (a .b) (storageOf (a .value .now) (a .text .now) (a .ends .now) (a .entries .now)) (append (nameOf (a .named) (a .name .now)) (packed (a .scale) (a .bytes .now))) refl (v .view-of .ensures) (r .append-packed-over .ensures) (c .called .ensures)
+
+pub append-packed-spec : {M : Type 1} → statement M
+append-packed-spec =
+    tie.close
+    (tie.spec
+    (λ c κs. search needs)
+    (λ c κs. search needs)
+    (λ c κs. search needs)
+    (λ c. search needs)
+    (λ c. search needs)
+    (λ c. search needs)
+    (λ c. search needs)
+    returns)

@@ -24,12 +24,14 @@ AMPLE = {"value": 4096, "namebytes": 1024, "names": 64, "entries": 256}
 FLOORS = (1, 1, 1, 1, 1, 1, 1, 2, 3, 4)
 BAD_FLOORS = (0, 5, 6, 256, 2**32 + 1, 2**64 - 1)
 CIVIL = ("ymd", "ymdts", "ymdtsntz")
-BESIDE = {"days": "A2", "civil": "A2", "packdec": "A4", "readdec": "A4"}      # the calls that need no builder
+BESIDE = {"days": "A2", "civil": "A2", "packdec": "A4", "readdec": "A4",      # the calls that need no builder
+          "batchstart": "A7", "batchadd": "A7", "batchread": "A7"}
 YEARS = (1, 2, 3, 4, 5, 100, 400, 1582, 1600, 1899, 1900, 1969, 1970, 1972, 2000, 2023, 2024, 2100, 9996, 9998, 9999)
 SPAN = (-719_162, 2_932_896)          # the days of the years 1 to 9999
 OUTSIDE = ((0, 10_000, -1), (0, 13, -1), (0, 29, 30, 31, 32, -1), (DAY, -1))     # of a year, a month, a day and a time
 EXTREMES = (2**31, 2**32 + 1, 2**40 + 1, 2**63 - 1, -2**63)
 POWERS = (9, 9, 18, 18, 38, 38, *range(39))
+FAR = (0, 3, 4, 255, 256, 2**24, 2**31, 2**32 - 9, 2**32 - 4, 2**32 - 1)       # counts and lengths that seldom fit
 NOT_MADE = (("register", b"a"), ("append", None, ("null",)), ("open", None, "list"), ("close",), ("rollback",), ("unique", True),
             ("finish", 9), ("poke", "floor", 1), ("poke", "open", 0), ("dump",), ("dumpvalue",))
 
@@ -148,8 +150,52 @@ def any_scalar(rng, bad, kinds):
     return (kind, whole(rng, kind))
 
 
+def batch_part(rng):
+    """A dictionary or a value in a batch, which does not judge it."""
+    return rng.randbytes(rng.choice((0, 0, 1, 2, 3, rng.randrange(12), rng.choice((250, 255, 256)) if rng.random() < 0.05 else 5)))
+
+
+def batch_record(rng, bad):
+    """A record of a batch; a bad one is a count below four and as many bytes, or its count or dictionary length is another, mostly one off."""
+    dictionary, value = batch_part(rng), batch_part(rng)
+    if bad and rng.random() < 0.3:
+        count = rng.randrange(4)
+        return count.to_bytes(4, "big") + rng.randbytes(count)
+    numbers = [4 + len(dictionary) + len(value), len(dictionary)]
+    if bad:
+        at = rng.randrange(2)
+        near = rng.choice((numbers[0] - 4, numbers[at])) + rng.choice((-1, 1))
+        numbers[at] = max(near, 0) if rng.random() < 0.6 else rng.choice(FAR)
+    return b"".join(n.to_bytes(4, "big") for n in numbers) + dictionary + value
+
+
+def batch_file(rng, bad):
+    """A batch file of some records, often cut anywhere; a bad one has bad records, bytes altered or another version, or is any bytes."""
+    file = b"\x01" + b"".join(batch_record(rng, bad and rng.random() < 0.4) for _ in range(rng.choice((0, 1, 1, 2, 3, 6))))
+    if rng.random() < 0.5:
+        file = file[:rng.randint(1, len(file))]
+    at, pick = rng.randrange(len(file)), rng.random() if bad else 1
+    if pick < 0.2:
+        return file[:at] + rng.randbytes(1) + file[at + 1:]
+    return rng.choice((b"", b"\x02" + file[1:], rng.randbytes(rng.randrange(20)), b"\x01" + rng.randbytes(9))) if pick < 0.4 else file
+
+
+def batch_call(rng, verb, bad):
+    """A call on a batch file; the buffer of one that writes is mostly just enough, or one byte too short or too long."""
+    file, dictionary, value = batch_file(rng, bad), batch_part(rng), batch_part(rng)
+    words = {"file": file.hex(), "dict": dictionary.hex(), "value": value.hex()} if verb == "batchadd" else {}
+    if verb == "batchread":
+        words = {"file": file.hex()}
+    elif rng.random() < 0.7:
+        used, size = (len(file), 8 + len(dictionary) + len(value)) if words else (0, 1)
+        words["out"] = max(0, used + rng.choice((size, size, size, size - 1, size + 1, 0, -1, rng.randint(0, size))))
+    return (verb, *(f"{key}={word}" for key, word in words.items()))
+
+
 def without_builder(rng, verb, bad):
     """A call that needs no builder."""
+    if BESIDE[verb] == "A7":
+        return batch_call(rng, verb, bad)
     if verb == "days":
         return (verb, *civil(rng, "ymd", bad)[1:])
     if verb == "civil":
@@ -170,8 +216,8 @@ class Run:
     `wrong` is the chance of a misplaced or ill-formed call; in a `held` run the accepted scalars are
     those that the Rust's types hold. Under A1 names are registered with containers open in an `inside` run, and in
     no other, since the Rust has no such call. Under A2 there are dates among the scalars, under A4 packed decimal, and
-    between the calls those that need no builder. Under A10 a run has a floor, mostly 1; `made` is the place of the `new`
-    that makes its builder, before which one is now and then refused."""
+    between the calls those that need no builder (A2, A4, A7). Under A10 a run has a floor, mostly 1; `made` is the place
+    of the `new` that makes its builder, before which one is now and then refused."""
 
     def __init__(self, model, rng, held, pool=None, wrong=0.02, unique=None, inside=False, floor=None, **settings):
         self.model, self.rng, self.held, self.wrong = model, rng, held, wrong

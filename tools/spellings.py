@@ -5,8 +5,8 @@
 
 WRITER is variant-script; the model is tools/model, or that of another FOLDER, and answers by the requests of document 02
 in SET, else by those that have landed (landed.py). A run is one random script: signs, underscores and leading zeros in
-numbers, `0x`, capitals, COUNTxHEX, tabs, comments, line ends of three kinds, dates, packed decimal, pokes of all fields, now and then another
-`new`, one that is refused, and a line that is no call. Numbers of `new`, `finish` and pokes are those of the grammar, 0 to
+numbers, `0x`, capitals, COUNTxHEX, tabs, comments, line ends of three kinds, dates, packed decimal, batch files, pokes of all fields, now and
+then another `new`, one that is refused, and a line that is no call. Numbers of `new`, `finish` and pokes are those of the grammar, 0 to
 2^64 - 1. Every answer must be the model's; where the model cannot take a line, WRITER must stop there with status 2 and say
 which line it is.
 """
@@ -26,6 +26,7 @@ NO_CALLS = ("close 1", "new size=1", "open tree", "call", "unique 2", "poke fiel
 
 FLOORS = ("1", "2", "3", "4", "+2", "03", "0_4", "1")
 BAD_FLOORS = ("0", "5", "+0", "00_5", str(2**64 - 1))
+FILES = ("01", "1x01", "02", "70x01", "0100", "010000000400000000", "0100000006000000010A0b", "010000000300000000000000", "01fFffffff00")
 
 
 def seldom(rng, wrong, right):
@@ -92,12 +93,23 @@ def scalar(rng, model, script):
     return f"{kind} " + rng.choice(["", some_bytes(rng)])
 
 
+def setting(rng, key):
+    return f"{key}=" + (size(rng) if key == "out" else rng.choice([*FILES, some_bytes(rng)]) if key == "file" else some_bytes(rng))
+
+
+def batch(rng):
+    """A call on a batch file: settings in any order, left out and given again."""
+    verb, keys = rng.choice([("batchstart", ["out"]), ("batchadd", ["file", "dict", "value", "out"]), ("batchread", ["file"])])
+    given = rng.sample(keys, rng.randint(0, len(keys))) + rng.choices(keys, k=int(rng.random() < 0.2))
+    return " ".join([verb, *(setting(rng, key) for key in given), *seldom(rng, [["size=1"], ["="], ["file"], ["out=x"]], [[]])])
+
+
 def beside(rng, model):
     """A call that needs no builder, in a list, or none."""
     dates = [" ".join(["days", *date(rng)]), "civil " + rng.choice(["-719_162", "+2932896", "2932897", whole(rng)])]
     out = rng.choice(["", " out=" + size(rng)])
     decimals = [f"packdec {scale(rng)} {whole(rng)}{out}", f"readdec {scale(rng)} {packed(rng)}"]
-    asked = dates * ("A2" in model.on) + decimals * ("A4" in model.on)
+    asked = dates * ("A2" in model.on) + decimals * ("A4" in model.on) + [batch(rng), batch(rng)] * ("A7" in model.on)
     return [seldom(rng, [rng.choice(asked) + " 1", rng.choice(asked).split()[0]], asked)] if asked else []
 
 

@@ -17,6 +17,7 @@
 //!
 //! docs/FORMAT.md of the repository says what the bytes and the calls are. Proved is what the linked calls do (`crates/ffi`); this
 //! crate only hands slices to them, and `listing` is for people to read.
+mod batch;
 mod builder;
 mod date;
 mod listing;
@@ -25,6 +26,7 @@ mod refusal;
 pub mod sys;
 mod variant;
 
+pub use batch::{batch_add, batch_start, BatchReader, BatchRecord, BatchWriter};
 pub use builder::{Buffer, Storage, VariantBuilder};
 pub use date::{Civil, Date};
 pub use listing::listing;

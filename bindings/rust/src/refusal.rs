@@ -41,7 +41,7 @@ macro_rules! rows {
 }
 
 rows! {
-    1 Damaged "the state words or the storage are not those of a builder"
+    1 Damaged "the state words or the storage are not those of a builder, or a batch file has fewer bytes than are said to be used"
     2 Finished "an earlier finish was accepted"
     3 NothingToClose "no container is open, or, for the uniqueness mark, the innermost is no object"
     4 ContainerOpen "a container is open"
@@ -54,11 +54,13 @@ rows! {
     11 TooDeep "64 containers are open"
     12 NamesFull "no room for a new name: the name table or the name bytes are full"
     13 EntriesFull "no room for a new entry of a list or an object"
-    14 ValueFull "no room for the value or the header in the value bytes, or for packed decimal in its output"
+    14 ValueFull "no room for the value or the header in the value bytes, for packed decimal in its output, or for a batch's record in its file or count"
     15 NoValue "no value was written"
     16 OutputFull "the dictionary does not fit its output"
     17 OutOfCalendar "a date that is not in the calendar, years 1 to 9999, or with it a time outside the day"
     18 NotPacked "packed decimal of no bytes or of more than 20, with a digit above 9 or with another sign"
+    19 Malformed "a record of a batch file with a count below four, or with a dictionary length that does not fit it"
+    21 NotBatch "no batch file: no bytes, or another version"
     24 FloorOutOfRange "a floor for widths that is not 1 to 4 bytes: no builder is made"
 }
 

@@ -96,6 +96,31 @@ extern "C" {
         written: *mut usize,
     ) -> u8;
 
+    /// The version byte of a batch at the start of `file`, of which 1 byte is used then; a `file` of no bytes is refused with 14.
+    pub fn variant_batch_start(file: *mut u8, file_len: usize) -> u8;
+
+    /// A record behind the first `used` bytes of `file`, and `used` is how many they are with it. A used count above the length is refused with
+    /// 1, then used bytes that are no batch with 21, then a record that does not fit the rest of `file`, or a four-byte count, with 14.
+    pub fn variant_batch_add(
+        file: *mut u8, file_len: usize,
+        used: *mut usize,
+        dictionary: *const u8, dictionary_len: usize,
+        value: *const u8, value_len: usize,
+    ) -> u8;
+
+    /// What stands at a place of `file`, below 1 as at 1; what is no batch is refused with 21. Into `kind`: 0, a whole record, its dictionary
+    /// from `dictionary` up to `value`, its value up to `next`, where the next record begins; 1, a bad record, of which only `next` is told;
+    /// 2, the tail, only its byte count into `tail`. What is not told stays as it was.
+    pub fn variant_batch_record_at(
+        file: *const u8, file_len: usize,
+        place: usize,
+        kind: *mut u8,
+        dictionary: *mut usize,
+        value: *mut usize,
+        next: *mut usize,
+        tail: *mut usize,
+    ) -> u8;
+
     /// The day number of a date, counted from 1970-01-01, into `days`; refused with 17.
     pub fn variant_days_of(year: i64, month: i64, day: i64, days: *mut i32) -> u8;
 

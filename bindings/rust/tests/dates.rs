@@ -1,5 +1,8 @@
 //! Dates by year, month and day: to day numbers and back, and appended; what is not in the calendar is refused with 17.
-use variant_writer::{sys, Civil, Date, Refusal, Variant, VariantBuilder, WORDS};
+mod common;
+
+use common::{call_unnamed, Lent, LENT};
+use variant_writer::{sys, Civil, Date, Refusal, Variant, VariantBuilder};
 
 const FIRST: i32 = -719_162;
 const LAST: i32 = 2_932_896;
@@ -196,34 +199,12 @@ fn place_among_the_rows() {
 /// The word call's codes: any but 11, 12 and 13 is refused with 7, whatever the date, where no earlier row holds, and changes nothing.
 #[test]
 fn codes() {
-    let mut words = [0; WORDS];
-    let (mut value, mut text, mut ends, mut entries) = ([9u8; 9], [9u8; 8], [9usize; 2], [9usize; 4]);
-    let mut append = |words: &mut [usize; WORDS], code, day, time| unsafe {
-        // SAFETY: each pointer is a borrow's, with its length
-        sys::variant_append_civil(
-            words,
-            value.as_mut_ptr(),
-            value.len(),
-            text.as_mut_ptr(),
-            text.len(),
-            ends.as_mut_ptr(),
-            ends.len(),
-            entries.as_mut_ptr(),
-            entries.len(),
-            false,
-            [].as_ptr(),
-            0,
-            code,
-            2023,
-            2,
-            day,
-            time,
-        )
-    };
+    let mut lent = LENT;
+    let append = |lent: &mut Lent, code, day, time| call_unnamed!(lent.variant_append_civil(code, 2023, 2, day, time));
     for (code, day) in (0..=u8::MAX).flat_map(|code| [(code, 28), (code, 29)]) {
-        assert_eq!(unsafe { sys::variant_new(&mut words, false, 1) }, 0);
-        let before = words;
-        let number = append(&mut words, code, day, 0);
+        assert_eq!(unsafe { sys::variant_new(&mut lent.words, false, 1) }, 0);
+        let before = lent.words;
+        let number = append(&mut lent, code, day, 0);
         assert_eq!(
             number,
             if !(11..=13).contains(&code) {
@@ -235,10 +216,10 @@ fn codes() {
             },
             "code {code}"
         );
-        assert!(number == 0 || words == before);
+        assert!(number == 0 || lent.words == before);
     }
     // a date has no time of day: none is looked at
-    assert_eq!(unsafe { sys::variant_new(&mut words, false, 1) }, 0);
-    assert_eq!(append(&mut words, 11, 28, -1), 0);
-    assert_eq!(append(&mut words, 14, 28, 0), 6);
+    assert_eq!(unsafe { sys::variant_new(&mut lent.words, false, 1) }, 0);
+    assert_eq!(append(&mut lent, 11, 28, -1), 0);
+    assert_eq!(append(&mut lent, 14, 28, 0), 6);
 }

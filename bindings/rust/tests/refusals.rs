@@ -1,5 +1,8 @@
 //! Each number of the table by a short run; a refused call leaves words, storage and output as they were.
-use variant_writer::{sys, Date, Refusal, Variant, VariantBuilder, WORDS};
+mod common;
+
+use common::{call_unnamed, Lent, LENT};
+use variant_writer::{batch_add, batch_start, sys, BatchReader, Date, Refusal, Variant, VariantBuilder};
 
 /// The call is refused with that number and changes nothing.
 fn refused(number: u8, b: &mut VariantBuilder, call: impl FnOnce(&mut VariantBuilder) -> Result<(), Refusal>) {
@@ -171,6 +174,20 @@ fn full_and_grown() {
     assert_eq!(b.value(), [2, 1, 0, 0, 5, 3, 1, 0, 1, 0]);
 }
 
+/// A batch file's refusals, and that of a record, behind which reading goes on.
+#[test]
+fn batch_files() {
+    for (number, mut file, used) in [(1, vec![2], 2), (21, vec![2; 99], 1), (21, vec![1; 99], 0), (14, vec![1; 8], 1)] {
+        let before = file.clone();
+        assert_eq!(batch_add(&mut file, used, &[], &[]), Err(Refusal::of(number).unwrap()));
+        assert_eq!(file, before);
+    }
+    assert_eq!(batch_start(&mut []), Err(Refusal::ValueFull));
+    assert_eq!(BatchReader::new(&[]).map(|_| ()), Err(Refusal::NotBatch));
+    let records = BatchReader::new(&[1, 0, 0, 0, 3, 0, 0, 0, 0, 0, 0, 5, 0, 0, 0, 2, 9]).unwrap();
+    assert_eq!(records.map(|record| record.unwrap_err().number()).collect::<Vec<_>>(), [19, 19]);
+}
+
 #[test]
 fn numbers_and_refusals() {
     for number in 0..=255 {
@@ -181,35 +198,15 @@ fn numbers_and_refusals() {
 /// The word call's kinds of bytes: those above 3 are refused with 7, where no earlier row holds, and change nothing.
 #[test]
 fn kinds_of_bytes() {
-    let mut words = [0; WORDS];
-    let (mut value, mut text, mut ends, mut entries) = ([9u8; 8], [9u8; 8], [9usize; 2], [9usize; 4]);
-    let mut append = |words: &mut [usize; WORDS], kind| unsafe {
-        // SAFETY: each pointer is a borrow's, with its length
-        sys::variant_append_bytes(
-            words,
-            value.as_mut_ptr(),
-            value.len(),
-            text.as_mut_ptr(),
-            text.len(),
-            ends.as_mut_ptr(),
-            ends.len(),
-            entries.as_mut_ptr(),
-            entries.len(),
-            false,
-            [].as_ptr(),
-            0,
-            kind,
-            b"hi".as_ptr(),
-            2,
-        )
-    };
+    let mut lent = LENT;
+    let append = |lent: &mut Lent, kind| call_unnamed!(lent.variant_append_bytes(kind, b"hi".as_ptr(), 2));
     for kind in 0..=u8::MAX {
-        assert_eq!(unsafe { sys::variant_new(&mut words, false, 1) }, 0);
-        let before = words;
-        let answer = append(&mut words, kind);
+        assert_eq!(unsafe { sys::variant_new(&mut lent.words, false, 1) }, 0);
+        let before = lent.words;
+        let answer = append(&mut lent, kind);
         assert_eq!(answer, if kind < 4 { 0 } else { 7 }, "kind {kind}");
-        assert!(kind < 4 || words == before);
+        assert!(kind < 4 || lent.words == before);
     }
-    words[6] = 1;
-    assert_eq!(append(&mut words, 4), 2);
+    lent.words[6] = 1;
+    assert_eq!(append(&mut lent, 4), 2);
 }

@@ -92,6 +92,41 @@ fn packed_decimal_both_ways() {
     assert_eq!(answers(&format!("new floor=0\n{asked}close\nnew\n{asked}")), format!("refused 24\n{told}no builder\nnew\n{told}"));
 }
 
+/// They need no builder. The first twelve are those of tools/model/READINGS_A2_A4_A7.md.
+#[test]
+fn batch_files() {
+    let cases = [
+        ("batchadd file=02 dict= value= out=0", "refused 1"),
+        ("batchadd file=02 dict= value= out=1", "refused 21"),
+        ("batchadd file=01 dict= value= out=1", "refused 14"),
+        ("batchadd file= dict= value= out=0", "refused 21"),
+        ("batchstart out=0", "refused 14"),
+        ("batchadd file=010000 dict= value=", "ok file=0100000000000400000000"),
+        ("batchread file=0100000003000000", "ok records=1 !19 tail=0"),
+        ("batchread file=01000000030000", "ok records=0 tail=6"),
+        ("batchread file=0100000000000000050000000004", "ok records=2 !19 /04 tail=0"),
+        ("batchread file=01ffffffff", "ok records=0 tail=4"),
+        ("batchread file=01", "ok records=0 tail=0"),
+        ("batchadd file=01 dict= value=", "ok file=010000000400000000"),
+        ("batchstart", "ok file=01"),
+        ("batchstart out=x out=+0_1", "ok file=01"),
+        ("batchread", "refused 21"),
+        ("batchread file=02", "refused 21"),
+        ("batchread file=01000000050000000204", "ok records=1 !19 tail=0"),
+        ("batchread file=0100000004ffffffff", "ok records=1 !19 tail=0"),
+        ("batchread file=0100000007000000020708090000000400000000ff", "ok records=2 0708/09 / tail=1"),
+        ("batchadd", "refused 21"),
+        ("batchadd out=12 value=09 dict=0708 file=01", "ok file=010000000700000002070809"),
+        ("batchadd out=11 value=09 dict=0708 file=01", "refused 14"),
+        ("batchadd file=zz file=1x01 dict=2x0a value= value=0B", "ok file=0100000007000000020a0a0b"),
+        ("batchadd file=10x01 out=9", "refused 1"),
+    ];
+    let asked: String = cases.iter().map(|(line, _)| format!("{line}\n")).collect();
+    let told: String = cases.iter().map(|(_, answer)| format!("{answer}\n")).collect();
+    assert_eq!(answers(&asked), told);
+    assert_eq!(answers(&format!("new floor=0\n{asked}close\nnew\n{asked}")), format!("refused 24\n{told}no builder\nnew\n{told}"));
+}
+
 /// They need no builder.
 #[test]
 fn days_and_dates() {
@@ -192,6 +227,19 @@ readdec
 readdec 256 5c
 readdec 0 5
 readdec 0 5c 5c
+batchstart 1
+batchstart out=
+batchstart out=-1
+batchstart file=01
+batchadd 01
+batchadd file=1
+batchadd file=01 dict=6g
+batchadd file=01 name=00
+batchadd file=01 out=x
+batchread 01
+batchread file
+batchread file=01 out=9
+batchread file=01 file=1
 append name=6 null
 open
 open 61 list

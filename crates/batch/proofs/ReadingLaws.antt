@@ -15,11 +15,14 @@ use Rattle.batch.specs.declared.Step.{Step}
 use Rattle.batch.specs.declared.Step.the-variants.{Whole, Bad, Tail, NoBatch}
 use Rattle.batch.specs.Layout.{bigNumber}
 use Rattle.batch.specs.Writing.{noBatch}
-use Rattle.batch.specs.Reading.{countAt, present, bodyOf, sizeIn, misfit, stepFrom, stepAt, stepNumber, badAt, stepRows, dictionaryIn, valueIn}
+use Rattle.batch.specs.Reading.{countAt, present, bodyOf, sizeIn, misfit, stepFrom, stepAt, stepNumber, badAt, stepRows, readNumber, readRows, dictionaryIn, valueIn}
 use Rattle.batch.proofs.Step.{the-type}
 
 pub step-in-order : (file : List ℕ) (place : ℕ) → inOrder order (stepRows file place) ≡ true
 step-in-order file place = refl
+
+pub read-in-order : (file : List ℕ) → inOrder order (readRows file) ≡ true
+read-in-order file = refl
 
 -- ---- a record at the front
 
@@ -135,20 +138,24 @@ no-parts file NoBatch h = (refl, refl)
 
 -- ---- a step's number
 
-from-number : (file : List ℕ) (at : ℕ) → stepNumber (stepFrom file at) ≡ cond (badAt (drop at file)) 19 0
-unfolding stepFrom
-from-number file at = go (present (drop at file)) (misfit (bodyOf (drop at file))) refl refl
-  where
-    go : (t u : Bool) → present (drop at file) ≡ t → misfit (bodyOf (drop at file)) ≡ u → stepNumber (stepFrom file at) ≡ cond (badAt (drop at file)) 19 0
-    go false u p m = rw p
-    go true false p m = rw (p, m)
-    go true true p m = rw (p, m)
+module _ (file : List ℕ) (at : ℕ) where
+  from-numbers : (stepNumber (stepFrom file at) ≡ cond (badAt (drop at file)) 19 0) × (readNumber (stepFrom file at) ≡ 0)
+  unfolding stepFrom
+  from-numbers = go (present (drop at file)) (misfit (bodyOf (drop at file))) refl refl
+    where
+      go : (t u : Bool) → present (drop at file) ≡ t → misfit (bodyOf (drop at file)) ≡ u
+          → (stepNumber (stepFrom file at) ≡ cond (badAt (drop at file)) 19 0) × (readNumber (stepFrom file at) ≡ 0)
+      go false u p m = (rw p, rw p)
+      go true false p m = (rw (p, m), rw (p, m))
+      go true true p m = (rw (p, m), rw (p, m))
 
 -- 21 is the call's, 19 the record's, in the table's order
-pub step-number : (file : List ℕ) (place : ℕ) → stepNumber (stepAt file place) ≡ first (stepRows file place)
+pub step-numbers : (file : List ℕ) (place : ℕ)
+    → (stepNumber (stepAt file place) ≡ first (stepRows file place)) × (readNumber (stepAt file place) ≡ first (readRows file))
 unfolding stepAt first
-step-number file place = go (noBatch file) refl
+step-numbers file place = go (noBatch file) refl
   where
-    go : (t : Bool) → noBatch file ≡ t → stepNumber (stepAt file place) ≡ first (stepRows file place)
-    go true v = rw v
-    go false v = rw v (from-number file (max place 1))
+    go : (t : Bool) → noBatch file ≡ t
+        → (stepNumber (stepAt file place) ≡ first (stepRows file place)) × (readNumber (stepAt file place) ≡ first (readRows file))
+    go true v = (rw v, rw v)
+    go false v = let f = from-numbers file (max place 1) in (rw v (f .0), rw v (f .1))

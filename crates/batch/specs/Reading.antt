@@ -95,7 +95,17 @@ stepNumber (step.Bad next) = 19
 stepNumber (step.Whole dictionary value next) = 0
 stepNumber (step.Tail size) = 0
 
--- its rows
+-- that of the call itself: 19 is "for that record", and reading is carried out
+abbrev pub readNumber : Step → ℕ
+readNumber step.NoBatch = 21
+readNumber (step.Bad next) = 0
+readNumber (step.Whole dictionary value next) = 0
+readNumber (step.Tail size) = 0
+
+-- their rows
+abbrev pub readRows : List ℕ → List Row
+readRows file = row 21 (noBatch file) ∷ []
+
 abbrev pub badAt : List ℕ → Bool
 badAt bs = cond (present bs) (misfit (bodyOf bs)) false
 

@@ -6,3 +6,4 @@ pub mod CallLaws
 pub mod ChainLaws
 pub mod DateLaws
 pub mod PackedLaws
+pub mod BatchFileLaws

@@ -3,3 +3,4 @@ pub mod Words
 pub mod Scalars
 pub mod Dates
 pub mod Packed
+pub mod BatchFile

@@ -8,6 +8,7 @@
 // A call answers 0, or document 01's number and then leaves the words and the slices as they were. Its contract demands nothing of the
 // caller. What a proof cannot see is the caller's: that the words and the slices are valid for the call and do not overlap. A slice
 // is passed as a pointer and a length.
+mod batch_file;
 mod calls;
 mod dates;
 mod packed;

@@ -1,10 +1,10 @@
 //! The calls that need no builder.
-use crate::parse::{date, packed, scale, signed, signed64, Expected};
-use crate::session::{hex, output};
+use crate::parse::{bytes, date, packed, scale, signed, signed64, unsigned, Expected};
+use crate::session::{buffer, hex, output, setting};
 use std::fmt::Write;
-use variant_writer::{write_packed_decimal, Date, Refusal, VariantBuilder};
+use variant_writer::{batch_add, batch_start, write_packed_decimal, BatchReader, Date, Refusal, VariantBuilder};
 
-pub const VERBS: [&str; 4] = ["days", "civil", "packdec", "readdec"];
+pub const VERBS: [&str; 7] = ["days", "civil", "packdec", "readdec", "batchstart", "batchadd", "batchread"];
 
 /// Adds the answer line: `ok` and what the call tells, or the refusal.
 pub fn answer(verb: &str, rest: &[&str], out: &mut String) -> Expected<()> {
@@ -15,9 +15,19 @@ pub fn answer(verb: &str, rest: &[&str], out: &mut String) -> Expected<()> {
         ("civil", _) => return Err("civil N".into()),
         ("packdec", [s, n, rest @ ..]) if rest.len() <= 1 => form(scale(s)?, signed(n, 128)?, output(rest)?),
         ("packdec", _) => return Err("packdec SCALE N [out=N]".into()),
-        _ => {
+        ("readdec", _) => {
             let (scale, bytes) = packed(rest)?;
             decimal(scale, &bytes)
+        }
+        ("batchstart", _) => {
+            let [size] = words(rest, &["out"], ["4096"])?;
+            let mut file = buffer(unsigned(size)?)?;
+            batch_start(&mut file).map(|used| used_bytes(&file, used))
+        }
+        ("batchadd", _) => added(rest)?,
+        _ => {
+            let [file] = words(rest, &["file"], [""])?;
+            records(&bytes(file)?)
         }
     };
     match told {
@@ -27,12 +37,16 @@ pub fn answer(verb: &str, rest: &[&str], out: &mut String) -> Expected<()> {
     .map_err(|e| e.to_string())
 }
 
+fn hexadecimal(bytes: &[u8]) -> String {
+    let mut digits = String::new();
+    hex(bytes, &mut digits);
+    digits
+}
+
 /// The packed decimal of a number.
 fn form(scale: u8, integer: i128, mut out: Vec<u8>) -> Result<String, Refusal> {
     let written = write_packed_decimal(integer, scale, &mut out)?;
-    let mut digits = String::new();
-    hex(&out[..written], &mut digits);
-    Ok(digits)
+    Ok(hexadecimal(&out[..written]))
 }
 
 /// The decimal that is stored for packed decimal, read off a builder's value: a first byte, the scale and the integer.
@@ -44,4 +58,40 @@ fn decimal(scale: u8, bytes: &[u8]) -> Result<String, Refusal> {
     let sign = if integer.last().is_some_and(|top| top >> 7 == 1) { -1 } else { 0 };
     let integer = integer.iter().rev().fold(sign, |n: i128, byte| n << 8 | i128::from(*byte));
     Ok(format!("dec{} {} {integer}", 4 << (code - 8), value[1]))
+}
+
+/// The words KEY=WORD over the default words; of a key that comes again the last counts.
+fn words<'s, const K: usize>(rest: &[&'s str], keys: &[&str; K], mut words: [&'s str; K]) -> Expected<[&'s str; K]> {
+    for word in rest {
+        let (at, word) = setting(word, keys)?;
+        words[at] = word;
+    }
+    Ok(words)
+}
+
+fn used_bytes(file: &[u8], used: usize) -> String {
+    format!("file={}", hexadecimal(&file[..used]))
+}
+
+/// A record behind all bytes of a file, in a buffer of the size that the call says: where that is less, the used count exceeds it.
+fn added(rest: &[&str]) -> Expected<Result<String, Refusal>> {
+    let [file, dictionary, value, size] = words(rest, &["file", "dict", "value", "out"], ["", "", "", "4096"])?;
+    let (file, dictionary, value) = (bytes(file)?, bytes(dictionary)?, bytes(value)?);
+    let mut lent = buffer(unsigned(size)?)?;
+    let held = file.len().min(lent.len());
+    lent[..held].copy_from_slice(&file[..held]);
+    Ok(batch_add(&mut lent, file.len(), &dictionary, &value).map(|used| used_bytes(&lent, used)))
+}
+
+/// A file's records, a bad one as its number, and the length of its tail.
+fn records(file: &[u8]) -> Result<String, Refusal> {
+    let reader = BatchReader::new(file)?;
+    let tail = reader.tail();
+    let shown: Vec<String> = reader
+        .map(|record| match record {
+            Ok(record) => format!("{}/{} ", hexadecimal(record.dictionary), hexadecimal(record.value)),
+            Err(refusal) => format!("!{} ", refusal.number()),
+        })
+        .collect();
+    Ok(format!("records={} {}tail={tail}", shown.len(), shown.concat()))
 }

@@ -4,8 +4,8 @@ use crate::{beside, poke};
 use std::fmt::Write;
 use variant_writer::{listing, Refusal, VariantBuilder};
 
-const VERBS: &str =
-    "a call: new, register, append, open, close, rollback, unique, finish, days, civil, packdec, readdec, poke, dump or dumpvalue";
+const VERBS: &str = "a call: new, register, append, open, close, rollback, unique, finish, days, civil, packdec, readdec, batchstart, \
+    batchadd, batchread, poke, dump or dumpvalue";
 const SETTINGS: [&str; 7] = ["unique", "value", "namebytes", "names", "entries", "fill", "floor"];
 
 pub struct Session {
@@ -102,11 +102,16 @@ fn blank(c: char) -> bool {
 /// The words KEY=N over the default numbers.
 fn settings<const K: usize>(rest: &[&str], keys: &[&str; K], mut numbers: [usize; K]) -> Expected<[usize; K]> {
     for word in rest {
-        let setting = word.split_once('=').and_then(|(key, n)| Some((keys.iter().position(|k| *k == key)?, n)));
-        let (at, n) = setting.ok_or_else(|| format!("KEY=N, KEY one of {}, for {word:?}", keys.join(" ")))?;
+        let (at, n) = setting(word, keys)?;
         numbers[at] = unsigned(n)?;
     }
     Ok(numbers)
+}
+
+/// A word KEY=SETTING: the key's place, and the setting.
+pub fn setting<'s>(word: &'s str, keys: &[&str]) -> Expected<(usize, &'s str)> {
+    let parted = word.split_once('=').and_then(|(key, setting)| Some((keys.iter().position(|k| *k == key)?, setting)));
+    parted.ok_or_else(|| format!("KEY=.., KEY one of {}, for {word:?}", keys.join(" ")))
 }
 
 /// The calls whose answer is `ok` or a refusal. A line that is no call changes nothing.
@@ -175,6 +180,11 @@ fn finish(b: &mut VariantBuilder, rest: &[&str], list: bool, out: &mut String) -
 /// The output of a call, of the size that it says.
 pub fn output(rest: &[&str]) -> Expected<Vec<u8>> {
     let [size] = settings(rest, &["out"], [4096])?;
+    buffer(size)
+}
+
+/// Zeros to be lent.
+pub fn buffer(size: usize) -> Expected<Vec<u8>> {
     if !room::<u8>(size) {
         return Err("an output of a size that memory has".into());
     }

@@ -10,15 +10,18 @@ and of finish the output. Steps come from
 
 - random runs from a fresh builder, in half of them with pokes between the calls;
 - for each step of a run, steps one off from it: the same state and call but for one number one
-  more or less, one mark turned, one byte or number more or less lent .., chosen where the number
-  changes. If the one has number n and the other a later one or none, the other just misses n;
+  more or less, one mark turned, one bit of a list's data at its close, one byte or number more or less
+  lent .., chosen where the number changes. If the one has number n and the other a later one or none,
+  the other just misses n;
 - all one-off steps of a few states in which everything that number 1 asks just holds;
-- written cases: 64 open, the widths' and ranges' edges, at each floor, numbers to 2^64 - 1.
+- written cases: 64 open, the widths' and ranges' edges, at each floor, numbers to 2^64 - 1, lists whose
+  data is as many values as they count, or just not.
 
 Each step becomes an antt term; a module shows `faults steps ≡ []` by refl: the places of the steps
 that differ. All that document 01 fixes is compared whole. Of what it leaves free: the freed
 entries of a closed object are expected sorted, as crates/semantics/specs says; the containers beyond
-the new depth are not compared (those not open beforehand are given to both sides differently).
+the new depth are not compared (those not open beforehand are given to both sides differently), nor
+is an object's count of elements.
 """
 import argparse
 import collections
@@ -193,7 +196,7 @@ def random_poke(rng, b):
     if what == "container" and depth:
         i = rng.randrange(depth)
         c = r.containers[i]
-        key = rng.choice(["value", "names", "namebytes", "entries", "kind", "unique", "entry", "entry"])
+        key = rng.choice(["value", "names", "namebytes", "entries", "kind", "unique", "entry", "entry", *["count"] * 3 * ("A8" in b.on)])
         if key == "kind":
             return ["container", i, key, rng.choice(["list", "object"])]
         if key == "unique":
@@ -270,7 +273,7 @@ def one_off(before, call):
             yield lambda n=floor: state(lambda b: setattr(b.r, "floor", n))
     for i in range(min(r.open, 64)):
         c = r.containers[i]
-        for field in ("value", "names", "namebytes", "entries"):
+        for field in ("value", "names", "namebytes", "entries", *["count"] * ("A8" in before.on)):
             for d in (1, -1):
                 if getattr(c, field) + d >= 0:
                     yield lambda i=i, f=field, d=d: state(
@@ -295,6 +298,12 @@ def one_off(before, call):
                     def moved(b, f=field, k=k, d=d):
                         getattr(b.s, f)[k] += d
                     yield lambda m=moved: state(m)
+    if "A8" in before.on and call[0] == "close" and 0 < r.open <= 64:
+        for k in range(before.innermost().value, min(r.value_used, len(s.value))):
+            for bit in (1, 4, 16, 64, 128):
+                def turned(b, k=k, bit=bit):
+                    b.s.value[k] ^= bit
+                yield lambda m=turned: state(m)
     yield from ((lambda c=c: (twin(before), c)) for c in calls_one_off(call))
 
 
@@ -418,6 +427,8 @@ def written(model):
     c = twin(c)
     c.r.containers[1].entry = ("replaced", 3, 0)
     yield c, ("rollback",)
+    if "A8" in model.on:
+        yield from lists_without_entries(builder, after)
     # the empty name, and name table and name bytes full to the last
     for namebytes, names in ((0, 1), (0, 0), (1, 1), (2, 1), (1, 2)):
         b = builder(namebytes=namebytes, names=names)
@@ -448,6 +459,55 @@ def written(model):
                 yield b, call
 
 
+PAYLOADS = {**dict(enumerate((0, 0, 0, 1, 2, 4, 8, 8, 5, 9, 17, 4, 8, 8, 4))), 17: 8, 18: 8, 19: 8, 20: 16}
+
+
+def measured_values(rng):
+    """Bytes that are one value, and some that are none, or not whole."""
+    def header(first, ids, count, large):
+        w, size = (first >> 2 & 3) + 1, rng.randrange(3)
+        return (bytes([first]) + count.to_bytes(4 if large else 1, "little") + bytes([7] * ((w + ids) * count))
+                + size.to_bytes(w, "little") + bytes([9] * size))
+
+    scalars = [bytes([4 * code]) + bytes(size) for code, size in [*PAYLOADS.items(), (21, 0), (21, 1), (40, 0), (63, 0)]]
+    texts = [bytes([4 * code]) + size.to_bytes(4, "little") + bytes(size) for code in (15, 16) for size in (0, 1, 3)]
+    shorts = [bytes([4 * n + 1]) + bytes(n) for n in (0, 1, 3, 7)]
+    lists = [header(3 + 4 * (w - 1) + 16 * large + unused, 0, count, large)
+             for unused in (0, 32, 224) for w in (1, 2, 3, 4) for large in (0, 1) for count in (0, 1, 2)]
+    objects = [header(2 + 4 * (w - 1) + 16 * (v - 1) + 64 * large + unused, v, count, large)
+               for unused in (0, 128) for w in (1, 2, 4) for v in (1, 3) for large in (0, 1) for count in (0, 1, 2)]
+    # stored lengths past the data, beyond 32 bits together, or themselves cut short
+    past = ["3cffffffff", "4000000100", "13ffffffff00", "1fffffffff", "7effffff7f01", "03", "02", "130000", "3c", "05", "0c", "0f0100000000ffffffff"]
+    return [*scalars, *texts, *shorts, *lists, *objects, *map(bytes.fromhex, past)]
+
+
+def lists_without_entries(builder, after):
+    """Closes of lists whose data is as many values as they count, or just not; children of lists that count too little; lists where no entry is
+    lent."""
+    rng = random.Random(8)
+    for data in measured_values(rng):
+        for front, behind in ((b"", b""), (b"\x00", b""), (b"", b"\x04"), (b"", b"\x00\x00\x00")):
+            whole = front + data + behind
+            for count in {1, 1 + len(front) + len(behind), rng.randrange(4)}:
+                for room in (40, 3, 4):
+                    b = after(builder(value=len(whole) + room), ("open", None, "list"))
+                    b.s.value[:len(whole)] = whole
+                    b.r.value_used, b.r.containers[0].count = len(whole), count
+                    if room == 40 or rng.random() < 0.1:
+                        yield b, ("close",)
+    null = ("append", None, ("null",))
+    for count in (0, 1, 2):
+        for child in ("list", "object"):
+            for own in (("new",), ("replaced", 0, 0)):
+                b = after(builder(), ("open", None, "list"), ("open", None, child))
+                b.r.containers[0].count, b.r.containers[1].entry = count, own
+                for call in (("rollback",), ("close",), null, ("append", b"a", ("null",)), ("unique", True)):
+                    yield b, call
+    b = after(builder(entries=0), ("open", None, "list"), null, ("open", None, "list"), ("append", None, ("true",)))
+    for call in (null, ("open", None, "object"), ("open", None, "list"), ("close",), ("rollback",), ("append", b"a", ("null",))):
+        yield b, call
+
+
 def at_edges(builder, after, floor):
     """Closes and finishes at the widths' edges, with this floor."""
     # data sizes around a width's edge, in a list and in an object
@@ -465,6 +525,7 @@ def at_edges(builder, after, floor):
         b = after(b, ("open", None, "list"))
         b.r.entries_used, b.r.value_used = count, count
         b.s.entries[:2 * count] = [n for k in range(count) for n in (0, k)]
+        b.r.containers[0].count = count
         yield b, ("close",)
         b = builder(value=60, names=count, namebytes=count, entries=12, floor=floor)
         b = after(b, ("open", None, "object"))
@@ -490,6 +551,10 @@ def tight(model):
             value, names, text, entries = marks[i]
             b.r.containers[i] = model.Container(value=value, names=names, namebytes=text, entries=entries, kind=kind,
                                                 unique=i == 1, entry=entry if i else ("new",))
+            end = marks[i + 1][0] if i + 1 < len(kinds) else used[0]
+            if "A8" in model.on:
+                b.r.containers[i].count = end - value + (i + 1 < len(kinds))
+                b.s.value[value:end] = bytes(end - value)
         b.r.open = len(kinds)
         b.s.namebytes[:3] = b"bab"
         b.s.nameends[:len(ends)] = ends
@@ -592,8 +657,10 @@ def container_term(c):
 def state_term(b, entries):
     r, s = b.r, b.s
     containers = "(" + "".join(container_term(c) + " ∷ " for c in r.containers[:r.open]) + "[])"
+    elements = "(" + "".join(f"{c.count} ∷ " for c in r.containers[:r.open]) + "[])"
     return (f"(state {r.value_used} {r.names_used} {r.namebytes_used} {r.entries_used} {r.open} {bools(r.unique)} "
-            f"{bools(r.finished)} {r.floor} {containers} {numbers(s.value)} {numbers(s.namebytes)} {numbers(s.nameends)} {numbers(entries)})")
+            f"{bools(r.finished)} {r.floor} {containers} {elements} {numbers(s.value)} {numbers(s.namebytes)} {numbers(s.nameends)} "
+            f"{numbers(entries)})")
 
 
 def step_term(step):
@@ -604,7 +671,7 @@ def step_term(step):
 
 
 COMPARE = """-- Steps to be held against `step`, and the places of those that differ.
-use mathlib.Core.Bool.{Bool, true, false, cond, not, _&&_}
+use mathlib.Core.Bool.{Bool, true, false, cond, not, _&&_, _||_}
 use mathlib.Core.List.{List, [], _∷_, _++_}
 use Prim.Native.Nat.{ℕ, _+_, _-_}
 use lib.Dec.{eqb}
@@ -634,12 +701,17 @@ box value names text entries parent object unique = record { value = value; name
 abbrev pub padded : List Container → List Container
 padded cs = cs ++ replicate (64 - length cs) (box 9 8 7 6 (Replaced 5 4) true true)
 
-abbrev pub state : ℕ → ℕ → ℕ → ℕ → ℕ → Bool → Bool → ℕ → List Container → List ℕ → List ℕ → List ℕ → List ℕ → State
-state value names text entries depth unique finished floor containers valueBytes textBytes ends numbers =
+-- so the elements
+abbrev pub filled : List ℕ → List ℕ
+filled ns = ns ++ replicate (64 - length ns) 99
+
+abbrev pub state : ℕ → ℕ → ℕ → ℕ → ℕ → Bool → Bool → ℕ → List Container → List ℕ → List ℕ → List ℕ → List ℕ → List ℕ → State
+state value names text entries depth unique finished floor containers elements valueBytes textBytes ends numbers =
     record {
       builder =
           record {
             containers = containers;
+            elements = elements;
             counts =
                 record {
                   value = value;
@@ -661,7 +733,12 @@ abbrev pub refuses : State → Call → ℕ → Check
 refuses s c n = record { before = s; call = c; number = n; after = s; output = lentOutput c; written = 0 }
 
 abbrev pub whole : State → State
-whole s = record { builder = record { containers = padded (s .builder .containers); counts = s .builder .counts }; storage = s .storage }
+whole s =
+    let b = s .builder in
+    record {
+      builder = record { containers = padded (b .containers); elements = filled (b .elements); counts = b .counts };
+      storage = s .storage;
+    }
 
 unfoldable pub alike : Bool → Bool → Bool
 alike true b = b
@@ -686,6 +763,13 @@ begins [] ls = true
 begins (k ∷ ks) [] = false
 begins (k ∷ ks) (l ∷ ls) = alikeContainers k l && begins ks ls
 
+-- so the elements, of lists; those of an object are free
+unfoldable pub counts : List Container → List ℕ → List ℕ → Bool
+counts [] ms ns = true
+counts (k ∷ ks) [] ns = false
+counts (k ∷ ks) (m ∷ ms) [] = false
+counts (k ∷ ks) (m ∷ ms) (n ∷ ns) = (k .object || eqb m n) && counts ks ms ns
+
 unfoldable pub alikeCounts : Counts → Counts → Bool
 alikeCounts c d =
     eqb (c .value) (d .value)
@@ -701,7 +785,9 @@ alikeStorage s t = same (s .value) (t .value) && (same (s .text) (t .text) && (s
 unfoldable pub alikeStates : State → State → Bool
 alikeStates s t =
     alikeCounts (s .builder .counts) (t .builder .counts)
-    && (begins (s .builder .containers) (t .builder .containers) && (eqb (length (t .builder .containers)) 64 && alikeStorage (s .storage) (t .storage)))
+    && (begins (s .builder .containers) (t .builder .containers)
+    && (counts (s .builder .containers) (s .builder .elements) (t .builder .elements)
+    && (eqb (length (t .builder .containers)) 64 && (eqb (length (t .builder .elements)) 64 && alikeStorage (s .storage) (t .storage)))))
 
 unfoldable pub agrees : Check → Bool
 agrees k =
@@ -728,7 +814,7 @@ use Rattle.encoding.specs.Signed.{twos, whole}
 use Rattle.encoding.specs.Utf8.{table, follow, rest, utf8}
 use Rattle.encoding.specs.Rows.{first}
 use Rattle.encoding.specs.Slices.{write, shift}
-use Rattle.value.specs.Scalar.{scalarBytes}
+use Rattle.value.specs.Scalar.{scalarBytes, scalarLength}
 use Rattle.value.specs.declared.variant.Variant.the-variants as variant
 use Rattle.value.specs.declared.variant.VariantBytes.the-variants as kind
 use Rattle.metadata.specs.Names.{cuts, namesOf, risen, intact, same, place, below, ascending, sorted}
@@ -737,22 +823,25 @@ use Rattle.container.specs.Layout.{listHeaderAt, listHeader, objectHeaderAt, la
 use Rattle.container.specs.Entries.{entriesOf, putEntries, seek, misplaced}
 use Rattle.container.specs.Sort.{insert, sort}
 use Rattle.container.specs.Close.{fronted}
+use Rattle.measure.specs.Measure.{containerLength, valueLength, measured, wholeValues, startsIn}
 use Rattle.semantics.specs.declared.ParentEntry.the-variants.{New, Replaced}
 use Rattle.semantics.specs.Record.{fixed, bytes, uuid, register, append, openIn, close, rollBack, uniqueness, finish}
 use Rattle.semantics.specs.Record.{rising, chained}
-use Rattle.semantics.specs.Damage.{overUsed, unchained, badFloor, fallenEnds, misplacedInner, misplacedParent, damagedParent}
+use Rattle.semantics.specs.Damage.{overUsed, unchained, badFloor, fallenEnds, misplacedInner, misplacedParent, uncounted, damagedParent}
 use Rattle.semantics.specs.Table.{header, numberOf}
 use Rattle.semantics.specs.Step.{registered, appended, opened, newContainer, entriesClosed, closed, rolledBack, finished, dictionaryOf, after, step}
 use Rattle.semantics.specs.Step as steps
-use Rattle.agree.specs.Compare.{Check, box, state, leaves, refuses, alike, alikeParents, alikeContainers, begins, alikeCounts, alikeStorage, alikeStates, agrees, faults}
+use Rattle.agree.specs.Compare.{Check, box, state, leaves, refuses, alike, alikeParents, alikeContainers, begins, counts}
+use Rattle.agree.specs.Compare.{alikeCounts, alikeStorage, alikeStates, agrees, faults}
 
 """
 
-UNFOLDING = ("width widthAt le les number twos whole table follow rest utf8 write shift scalarBytes cuts namesOf risen intact same place below "
-             "joined endsFrom laidOut dictionary ascending sorted listHeaderAt listHeader objectHeaderAt largest objectHeader entriesOf putEntries "
-             "seek misplaced insert sort fronted overUsed rising chained unchained badFloor fallenEnds misplacedInner misplacedParent damagedParent "
-             "header first numberOf registered appended opened newContainer entriesClosed closed rolledBack finished dictionaryOf after step steps.withUnique "
-             "alike alikeParents alikeContainers begins alikeCounts alikeStorage alikeStates agrees faults")
+UNFOLDING = ("width widthAt le les number twos whole table follow rest utf8 write shift scalarBytes scalarLength cuts namesOf risen intact "
+             "same place below joined endsFrom laidOut dictionary ascending sorted listHeaderAt listHeader objectHeaderAt largest objectHeader "
+             "entriesOf putEntries seek misplaced insert sort fronted overUsed rising chained unchained badFloor fallenEnds misplacedInner "
+             "misplacedParent uncounted damagedParent containerLength valueLength measured wholeValues startsIn header first numberOf "
+             "registered appended opened newContainer entriesClosed closed rolledBack finished dictionaryOf after step steps.withUnique alike "
+             "alikeParents alikeContainers begins counts alikeCounts alikeStorage alikeStates agrees faults")
 
 
 GROUP = 5  # steps in a theorem: antt limits what one may compute
@@ -854,7 +943,7 @@ def check(repo, modules):
         with open(os.path.join(repo, "crates.txt")) as f:
             crates = f.read()
         with open(os.path.join(copy_of, "crates.txt"), "w") as f:
-            f.write(crates + "agree: semantics container metadata value encoding\n")
+            f.write(crates + "agree: semantics measure container metadata value encoding\n")
         bad = 0
         for i, (at, steps) in enumerate(modules):
             folder = os.path.join(copy_of, "crates", "agree")
@@ -928,7 +1017,7 @@ def main():
         modules = modules[:a.first]
     if a.out:
         write_crate(a.out, modules)
-        print(f"add the line 'agree: semantics container metadata value encoding' to crates.txt of a copy of the repository,\n"
+        print(f"add the line 'agree: semantics measure container metadata value encoding' to crates.txt of a copy of the repository,\n"
               f"put {a.out} there as crates/agree, and run: rt check agree")
     if a.check:
         sys.exit(1 if check(a.check, modules) else 0)

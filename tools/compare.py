@@ -158,13 +158,14 @@ class Counts:
         self.left_out, self.finished_oracle, self.verbs, self.answers = (collections.Counter() for _ in range(4))
         self.inner_names = self.inner_runs = self.not_made = self.without = 0
         self.floors, self.beside, self.forms = (collections.Counter() for _ in range(3))
-        self.marks = collections.Counter(on=0, off=0, ignored=0)
+        self.marks, self.lists = collections.Counter(on=0, off=0, ignored=0), collections.Counter()
 
     def note(self, run, places):
         kind = run.kind
         self.runs[kind] += 1
         self.inner_names += run.inner_names
         self.inner_runs += run.inner_names > 0
+        self.lists += run.lists
         for call, answer in zip(run.calls, run.answers):
             if call[0] in scripts.BESIDE:
                 self.beside[call[0]] += 1
@@ -210,6 +211,8 @@ class Counts:
               + f"; {self.not_made} refused, then {self.without} calls, pokes and dumps without a builder")
         print("forms of document 02 appended: " + (", ".join(f"{kind} {n}" for kind, n in sorted(self.forms.items())) or "none")
               + "; without a builder: " + (", ".join(f"{verb} {n}" for verb, n in sorted(self.beside.items())) or "none"))
+        print(f"lists closed: {self.lists['closed']}, {self.lists['over 255']} of over 255 elements, {self.lists['no entry lent']} where no entry is "
+              f"lent; not as many whole values as counted: {self.lists['refused']}")
         print(f"names registered with containers open: {self.inner_names}, in {self.inner_runs} runs")
         print(f"sorted mark of runs finished in both: compared on {self.marks['on']}, compared off {self.marks['off']}, "
               f"ignored after a roll back {self.marks['ignored']}")
@@ -293,7 +296,7 @@ def short_run(model, run, exact):
 
 def sample(model, args, per_kind=46):
     kept = []
-    for kind in [kind for kind in scripts.MAKERS if kind not in ("widths", "altered")]:
+    for kind in [kind for kind in scripts.MAKERS if kind not in ("widths", "lists", "altered")]:
         number = found = 0
         while found < per_kind:
             lines = short_run(model, scripts.make(model, args.seed, kind, number, short=True), number % 2 == 0)

@@ -30,7 +30,8 @@ SCALARS = ['null', 'true', 'false', 'int8', 'int16', 'int32', 'int64', 'float', 
 CIVIL = ['ymd', 'ymdts', 'ymdtsntz']
 COUNTS = ['value_used', 'names_used', 'namebytes_used', 'entries_used', 'open']
 POKES = [*COUNTS, 'unique', 'sorted', 'finished', 'container value', 'container names', 'container namebytes', 'container entries',
-         'container kind', 'container unique', 'container entry new', 'container entry replaced', 'nameend', 'entry', 'value', 'namebytes', 'floor']
+         'container kind', 'container unique', 'container entry new', 'container entry replaced', 'nameend', 'entry', 'value', 'namebytes', 'floor',
+         'container count']
 
 
 def size(n):
@@ -44,7 +45,7 @@ def octets(words):
 
 
 def settings(words):
-    return dict(word.split('=') for word in words)
+    return dict(word.split('=', 1) for word in words)
 
 
 def scalar(kind, words):

@@ -3,6 +3,7 @@
 A run is made call by call on the model, so that a call can be chosen by the state it meets.
 Every run comes from its own seed: the same seed, kind and number give the same script.
 """
+import collections
 import random
 
 OBJECTS = ("list", "object")
@@ -217,7 +218,8 @@ class Run:
     those that the Rust's types hold. Under A1 names are registered with containers open in an `inside` run, and in
     no other, since the Rust has no such call. Under A2 there are dates among the scalars, under A4 packed decimal, and
     between the calls those that need no builder (A2, A4, A7). Under A10 a run has a floor, mostly 1; `made` is the place
-    of the `new` that makes its builder, before which one is now and then refused."""
+    of the `new` that makes its builder, before which one is now and then refused. Under A8 `lists` counts the closes that walk a
+    list's data."""
 
     def __init__(self, model, rng, held, pool=None, wrong=0.02, unique=None, inside=False, floor=None, **settings):
         self.model, self.rng, self.held, self.wrong = model, rng, held, wrong
@@ -228,6 +230,7 @@ class Run:
         self.session, self.lines, self.calls, self.answers = model.Session(model.on), [], [], []
         self.peak = dict.fromkeys(("value", "namebytes", "names", "entries", "out"), 0)
         self.inner_names = 0    # registered with containers open
+        self.lists = collections.Counter()
         unique = rng.random() < 0.2 if unique is None else unique
         fill = rng.choice(FILLS)
         self.start({"unique": int(unique), **AMPLE, "fill": fill, **settings}, floor)
@@ -245,7 +248,9 @@ class Run:
     def say(self, call):
         line = self.model.format_call(call)
         call = self.model.parse_line(line)
+        walked = self.walked(call)
         answer = self.session.answer(call)
+        self.lists.update(walked(answer) if walked else ())
         self.lines.append(line)
         self.calls.append(call)
         self.answers.append(answer)
@@ -258,6 +263,15 @@ class Run:
         if call[0] == "finish":
             p["out"] = max(p["out"], len(self.session.written))
         return answer
+
+    def walked(self, call):
+        """Of a close that walks a list's data, what its answer tells."""
+        b = self.session.builder
+        if call[0] != "close" or "A8" not in self.model.on or b is None or b.broken(names=True) or not b.r.open:
+            return None
+        c, bare = b.innermost(), not b.entries_room()
+        told = [*["over 255"] * (c.count > 255), *["no entry lent"] * bare]
+        return (lambda answer: ["refused"] if answer == "refused 1" else ["closed", *told]) if c.kind == "list" else None
 
     def record(self):
         return self.session.builder.r
@@ -465,6 +479,20 @@ def tightened(new, other):
     return run
 
 
+def lists(new, number, short):
+    """Lists, and objects within them, where few entries are lent, or none; now and then of around 255 elements."""
+    rng = new.rng
+    run = new(value=8192, entries=rng.choice([0, 0, 1, 2, 3, 6]), pool=MIXED[:3])
+    run.open("list")
+    if number % 4 == 0 and not short:
+        for _ in range(rng.choice([254, 255, 256, 257])):
+            put(run, None)
+    for _ in range(rng.randrange(3, 12 if short else 30)):
+        run.step((6, 2, 3, 3, 1)) if run.chance(0.6) else run.open("list" if run.chance(0.7) else "object")
+    run.wind_up()
+    return run
+
+
 def edge(new):
     """Data, or the bytes of all names, that end at a width's edge."""
     rng = new.rng
@@ -657,6 +685,100 @@ def poke_floor(run):
     run.say(("poke", "floor", run.rng.choice((1, 2, 3, 4, 1, 2, 3, 4, 0, 5, 2**64 - 1))))
 
 
+def poke_count(run):
+    """A list's count: one off, none, as many as its data's bytes or just more, or anything; now and then an object's, which is free."""
+    r, b, rng = run.record(), run.session.builder, run.rng
+    wanted = OBJECTS if rng.random() < 0.1 else ("list",)
+    counted = [i for i in range(r.open if r.open <= 64 else 0) if r.containers[i].kind in wanted]
+    if counted:
+        i = rng.choice([*counted, counted[-1]])
+        count, most = r.containers[i].count, b.data_size(i) + (i + 1 < r.open)
+        near_by = (count - 1, count - 1, count + 1, count + 1, 0, most, most + 1)
+        n = rng.choice(near_by) if rng.random() < 0.85 else rng.choice((2**32 - 1, 2**32, 2**63, 2**64 - 1, rng.randrange(99)))
+        run.say(("poke", "container", i, "count", min(max(0, n), 2**64 - 1)))
+
+
+def starts_of(model, data):
+    """Where the values start that data begins with, and where the last one ends."""
+    at = [0]
+    while size := model.measure(data[at[-1]:]):
+        at.append(at[-1] + size)
+    return at if at[-1] else [0, len(data)]
+
+
+def poke_data(run):
+    """The innermost list's data: a value, or some, overwritten by one of another kind or by what is just none; or the data cut short. Its count is
+    mostly as many as there would then be."""
+    r, b, rng = run.record(), run.session.builder, run.rng
+    first = r.containers[r.open - 1].value if run.inner() == "list" else r.value_used
+    data = bytes(b.s.value[first:r.value_used])
+    if not data or r.value_used > len(b.s.value):
+        return poke_count(run)
+    starts = starts_of(run.model, data)
+    i = rng.randrange(len(starts) - 1)
+    j = rng.choice((i + 1, i + 1, rng.randint(i + 1, len(starts) - 1)))
+    count = len(starts) - 1
+    if rng.random() < 0.1:
+        run.say(("poke", "value_used", first + starts[i] if rng.random() < 0.3 else r.value_used - rng.randint(1, min(len(data), 9))))
+    else:
+        poked, values = rng.choice((one_value, one_value, one_value, one_off, no_value, far_length, far_count))(rng, starts[j] - starts[i])
+        run.say(("poke", "value", first + starts[i], poked[:len(b.s.value) - first - starts[i]].hex()))
+        count += i - j + values
+    run.say(("poke", "container", r.open - 1, "count", max(0, count + rng.choice((0, 0, 0, 0, -1, 1)))))
+
+
+def container_head(rng):
+    """The first byte of a list or an object, with unused bits now and then; the bytes of an offset, of an offset with its id, and of the count."""
+    w, v, large, unused = rng.randint(1, 4), rng.randint(1, 4), rng.random() < 0.5, rng.random() < 0.5
+    if rng.random() < 0.5:
+        return 3 + 4 * (w - 1) + 16 * large + 32 * rng.randrange(8) * unused, w, w, 4 if large else 1
+    return 2 + 4 * (w - 1) + 16 * (v - 1) + 64 * large + 128 * unused, w, v + w, 4 if large else 1
+
+
+def one_value(rng, size):
+    """The first bytes of a value of that size, up to all that measuring reads, and 1."""
+    first, w, item, c = container_head(rng)
+    room, pick = (size - 1 - c - w) // item, rng.random()
+    count = min(rng.choice((0, 1, room, rng.randint(0, max(room, 0)))), room, 255)
+    rest = size - 1 - c - w - count * item
+    if pick < 0.7 and room >= 0 and rest < 256**w:
+        return bytes([first]) + count.to_bytes(c, "little") + rng.randbytes(count * item) + rest.to_bytes(w, "little"), 1
+    if pick < 0.9 and size >= 5:
+        return bytes([4 * rng.choice((15, 16))]) + (size - 5).to_bytes(4, "little"), 1
+    fixed = [4 * code for code, n in PAYLOADS.items() if n + 1 == size]
+    return bytes([rng.choice([*fixed, 4 * min(size - 1, 63) + 1])]), 1
+
+
+def one_off(rng, size):
+    """The same of a value that is one byte longer or shorter."""
+    return one_value(rng, max(1, size + rng.choice((-1, 1))))
+
+
+def no_value(rng, size):
+    """A type code above 20 and nulls to that size; how many values they would be."""
+    return bytes([4 * rng.choice((21, 22, 31, 32, 63, rng.randint(21, 63)))]) + bytes(size - 1), size
+
+
+def far_length(rng, size):
+    """A Binary, a String or an empty container that says more bytes than there are, or so many that 32 bits do not hold them."""
+    first, _, _, c = container_head(rng)
+    if rng.random() < 0.5:
+        return bytes([4 * rng.choice((15, 16))]) + rng.choice((*FAR, 2**32 - 5, 2**32 - 3)).to_bytes(4, "little"), 1
+    return bytes([first | 12]) + bytes(c) + rng.choice((*FAR, 2**32 - 5 - c, 2**32 - 3 - c)).to_bytes(4, "little"), 1
+
+
+def far_count(rng, size):
+    """A container without data whose offsets are so many that 32 bits hold few of their bytes, then nulls to that size; how many values these would
+    be."""
+    first, w, item, _ = container_head(rng)
+    count = min(-(-2**32 // item), 2**32 - 1)
+    header = 5 + count * item % 2**32 + w
+    if header > size:
+        return no_value(rng, size)
+    return bytes([first | (16 if first % 4 == 3 else 64)]) + count.to_bytes(4, "little") + bytes(size - 5), 1 + size - header
+
+
+PAYLOADS = {0: 0, 1: 0, 2: 0, 3: 1, 4: 2, 5: 4, 6: 8, 7: 8, 8: 5, 9: 9, 10: 17, 11: 4, 12: 8, 13: 8, 14: 4, 17: 8, 18: 8, 19: 8, 20: 16}
 POKES = [poke_number, poke_container, poke_storage, poke_name, poke_entry, poke_open,
          lambda run: run.say(("poke", run.rng.choice(("unique", "sorted", "finished")), run.rng.randrange(2)))]
 
@@ -673,12 +795,55 @@ def many_names(new, number):
     return run
 
 
+def many_elements(new, number):
+    """So many values in a list that their count is at a width's edge, or far above it, and so many counted, or one off: values all alike, as the
+    storage is filled, over as much room as the header takes, or about that."""
+    rng, model, floor = new.rng, new.model, 1 + number % 4
+    fill, count = rng.choice((0, 0, 4, 12, 16, 5, 3, 2)), rng.choice((*SIZES, 100_000) if number % 5 == 0 else (254, *COUNTS, 257, 1000))
+    size = model.measure(bytes([fill]) * 99)
+    header = model.list_header(range(0, count * size, size), count * size, floor)
+    run = new(floor=floor, value=count * size + len(header) + rng.choice((0, 0, 0, 1, -1)), entries=0, fill=fill, wrong=0)
+    run.open("list")
+    run.say(("poke", "value_used", count * size))
+    run.say(("poke", "container", 0, "count", count + rng.choice((0, 0, 0, 0, 1, -1))))
+    run.say(("close",))
+    run.finish()
+    return run
+
+
+def list_altered(new):
+    """A list of some values, within others or not; its data or its count altered, then its close."""
+    rng = new.rng
+    run = new(value=rng.choice([60, 120, 400]), namebytes=8, names=4, entries=rng.choice([0, 4, 12]), pool=MIXED[:3], wrong=0, inside=True)
+    for _ in range(rng.choice([0, 0, 0, 1, 2])):
+        run.open()
+    run.open("list")
+    for _ in range(rng.randint(1, 5)):
+        depth = run.record().open
+        rng.choice((lambda: put(run, run.pool[0]), run.append, run.append, run.open))()
+        for _ in range(rng.randrange(3) if run.record().open > depth else 0):
+            run.append()
+        if run.record().open > depth and run.say(("close",)) != "ok":
+            run.say(("rollback",))
+    if run.chance(0.15):
+        run.open()
+    for _ in range(rng.choice([1, 1, 1, 2, 3])):
+        rng.choice((poke_count, poke_data, poke_data, poke_data))(run)
+    settle(run)
+    run.say(("dump",)) if run.chance(0.3) else None
+    run.step((2, 1, 9, 2, 1)) if run.chance(0.2) else run.say(("close",))
+    return run
+
+
 def settle(run):
     """Pokes all that a call may read, so that no answer rests on what document 01 leaves free."""
     r, b = run.record(), run.session.builder
     for i in range(r.open if r.open <= 64 else 0):
         c = r.containers[i]
+        count = c.count
         run.say(("poke", "container", i, "all", c.value, c.names, c.namebytes, c.entries, c.kind, int(c.unique), *c.entry))
+        if count and "A8" in run.model.on:
+            run.say(("poke", "container", i, "count", count))
     for k in range(min(r.entries_used, b.entries_room())):
         run.say(("poke", "entry", k, *b.s.entries[2 * k:2 * k + 2]))
     for k in range(min(r.names_used, b.names_room())):
@@ -693,26 +858,36 @@ def altered(new, number, short):
     rng = new.rng
     if number % 40 == 0:
         return many_names(new, number // 40)
+    if number % 40 == 20 and "A8" in new.model.on:
+        return many_elements(new, number // 40)
+    if number % 3 == 1 and "A8" in new.model.on:
+        return ended(list_altered(new))
     run = new(value=rng.choice([60, 120, 400]), namebytes=rng.choice([8, 30]), names=rng.choice([4, 12]),
               pool=MIXED[:5], entries=rng.choice([5, 12, 25]), wrong=0.06, inside=True)
+    pokes = [*POKES, *[poke_floor] * ("A10" in new.model.on), *[poke_count, poke_data] * ("A8" in new.model.on)]
     for _ in range(rng.randint(1, 3)):
         for _ in range(rng.randrange(9)):
             run.step()
         for _ in range(rng.choice([1, 1, 1, 2, 3])):
-            rng.choice([*POKES, *[poke_floor] * ("A10" in new.model.on)])(run)
+            rng.choice(pokes)(run)
         settle(run)
         for _ in range(rng.randint(1, 4)):
             run.step((4, 3, 3, 4, 1)) if run.chance(0.8) else run.anything()
             if run.chance(0.3):
                 run.say(("dump",))
+    return ended(run)
+
+
+def ended(run):
+    """Wound up, and all shown."""
     run.wind_up(rollback=0.4)
     run.say(("dump",))
     run.say(("dumpvalue",))
     return run
 
 
-MAKERS = {f.__name__: f for f in (plain, deep, rollbacks, replaced, refusals, small, wide, widths, altered)}
-SHARES = {"plain": 20, "deep": 15, "rollbacks": 17, "replaced": 15, "refusals": 12, "small": 15, "wide": 3, "widths": 5, "altered": 8}
+MAKERS = {f.__name__: f for f in (plain, deep, rollbacks, replaced, refusals, small, wide, widths, lists, altered)}
+SHARES = {"plain": 20, "deep": 15, "rollbacks": 17, "replaced": 15, "refusals": 12, "small": 15, "wide": 3, "widths": 5, "lists": 5, "altered": 8}
 
 
 class Maker:

@@ -119,7 +119,7 @@ def poke(rng, model):
     entry = seldom(rng, ["replaced"], ["new", f"replaced {n[4]} {n[5]}", "new 4 5"])
     mark = rng.choice(model.CONTAINER_NUMBERS)
     part = rng.choice([f"{mark} {n[0]}", f"kind {kind}", f"unique {flag}", f"entry {entry}",
-                       f"all {n[0]} {n[1]} {n[2]} {n[3]} {kind} {flag} {entry}"])
+                       f"all {n[0]} {n[1]} {n[2]} {n[3]} {kind} {flag} {entry}", *[f"count {n[0]}"] * 2 * ("A8" in model.on)])
     near = rng.randrange(4)
     return "poke " + rng.choice([
         f"{rng.choice(model.RECORD_NUMBERS)} {n[0]}", f"{rng.choice(model.RECORD_MARKS)} {flag}",

@@ -3,7 +3,7 @@
 use variant_writer::{listing, Refusal, Variant, VariantBuilder};
 
 fn main() -> Result<(), Refusal> {
-    let (mut value, mut text, mut ends, mut entries) = ([0; 78], [0; 52], [0; 8], [0; 22]);
+    let (mut value, mut text, mut ends, mut entries) = ([0; 78], [0; 52], [0; 8], [0; 16]);
     let mut builder = VariantBuilder::lend(&mut value, &mut text, &mut ends, &mut entries);
     builder.reset(true);
     scan(&mut builder)?;

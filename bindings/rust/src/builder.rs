@@ -27,7 +27,8 @@ pub enum Buffer<'a, T> {
     Lent(&'a mut [T]),
 }
 
-/// The four storages as slices: value bytes, name bytes, the end of each name, and entries of two numbers, id and offset.
+/// The four storages as slices: value bytes, name bytes, the end of each name, and the entries, one for each field of an open object, of
+/// two numbers, id and offset.
 pub struct Storage<'b> {
     pub value: &'b mut [u8],
     pub text: &'b mut [u8],
@@ -39,6 +40,9 @@ pub struct Storage<'b> {
 ///
 /// Storage does not grow: a call for which it is too small is refused with 12 (names), 13 (entries) or 14 (value bytes), and may be
 /// made again after `grow`. A refused call changes nothing. A name is `Some` in an object and `None` elsewhere.
+///
+/// A field takes an entry until its object is closed or rolled back. A list takes none, however long it is: of storage it needs its
+/// value bytes alone.
 ///
 /// Offsets, ids and the dictionary's numbers take as few bytes as hold them, but no fewer than the floor: 1, or what `with_floor`,
 /// `lend_with_floor` or `reset_with_floor` was given, 1 to 4. Containers' counts and the lengths of Binary and String do not follow it.
@@ -77,12 +81,12 @@ pub(crate) fn answer(number: u8) -> Result<(), Refusal> {
 }
 
 impl VariantBuilder<'static> {
-    /// With room for 4096 value bytes, 64 names of 1024 bytes together, and 128 entries.
+    /// With room for 4096 value bytes, 64 names of 1024 bytes together, and 128 fields in the objects open at one time.
     pub fn new() -> Self {
         Self::with_capacity(4096, 1024, 64, 128)
     }
 
-    /// With room for so many value bytes, name bytes, names, and entries of the containers open at one time.
+    /// With room for so many value bytes, name bytes, names, and entries: fields in the objects open at one time.
     pub fn with_capacity(value: usize, text: usize, names: usize, entries: usize) -> Self {
         Self::lend(vec![0; value], vec![0; text], vec![0; names], vec![0; 2 * entries])
     }

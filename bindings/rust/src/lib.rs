@@ -34,5 +34,6 @@ pub use packed::write_packed_decimal;
 pub use refusal::Refusal;
 pub use variant::Variant;
 
-/// How many state words a builder has: 8 counts, and 64 containers of 9 words (`crates/ffi/specs/Words.antt`).
-pub const WORDS: usize = 584;
+/// How many state words a builder has: 8 counts, 64 containers of 9 words, and for each how many elements it has, if it is a list
+/// (`crates/ffi/specs/Words.antt`).
+pub const WORDS: usize = 648;

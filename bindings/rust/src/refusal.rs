@@ -53,7 +53,7 @@ rows! {
     10 NameLive "uniqueness is on and the object has a field of this name"
     11 TooDeep "64 containers are open"
     12 NamesFull "no room for a new name: the name table or the name bytes are full"
-    13 EntriesFull "no room for a new entry of a list or an object"
+    13 EntriesFull "no room for a new field of an object: the entries are full"
     14 ValueFull "no room for the value or the header in the value bytes, for packed decimal in its output, or for a batch's record in its file or count"
     15 NoValue "no value was written"
     16 OutputFull "the dictionary does not fit its output"

@@ -1,5 +1,9 @@
 //! Builders with a floor for widths: offsets, ids and dictionary numbers take no fewer bytes; counts and the lengths of Binary and String
 //! do not follow it. Any other floor than 1 to 4 is refused with 24, and nothing is made.
+#[path = "common/layout.rs"]
+mod layout;
+
+use layout::{count, list, stored, width};
 use variant_writer::{sys, Refusal, Variant, VariantBuilder, WORDS};
 
 const BAD: [usize; 5] = [0, 5, 6, 256, usize::MAX];
@@ -16,30 +20,6 @@ fn finished(b: &mut VariantBuilder) -> Vec<u8> {
     let n = b.finish(&mut out).unwrap();
     out.truncate(n);
     out
-}
-
-/// The larger of the floor and the least width that holds n.
-fn width(floor: usize, n: usize) -> usize {
-    let least = (1..).find(|w| n >> (8 * w) == 0).unwrap();
-    floor.max(least)
-}
-
-/// The numbers, each in so many bytes.
-fn stored(width: usize, numbers: impl IntoIterator<Item = usize>) -> Vec<u8> {
-    numbers.into_iter().flat_map(|n| n.to_le_bytes()[..width].to_vec()).collect()
-}
-
-/// A count of elements or fields.
-fn count(n: usize) -> Vec<u8> {
-    stored(if n > 255 { 4 } else { 1 }, [n])
-}
-
-/// A list of n equal elements.
-fn list(floor: usize, n: usize, element: &[u8]) -> Vec<u8> {
-    let w = width(floor, n * element.len());
-    let first = 3 + 4 * (w - 1) + if n > 255 { 16 } else { 0 };
-    let offsets = stored(w, (0..=n).map(|k| k * element.len()));
-    [vec![first as u8], count(n), offsets, element.repeat(n)].concat()
 }
 
 /// An object of one field.

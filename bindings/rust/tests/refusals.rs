@@ -1,52 +1,17 @@
 //! Each number of the table by a short run; a refused call leaves words, storage and output as they were.
 mod common;
+#[path = "common/unchanged.rs"]
+mod unchanged;
 
 use common::{call_unnamed, Lent, LENT};
+use unchanged::{all_refused, finish, refused};
 use variant_writer::{batch_add, batch_start, sys, BatchReader, Date, Refusal, Variant, VariantBuilder};
-
-/// The call is refused with that number and changes nothing.
-fn refused(number: u8, b: &mut VariantBuilder, call: impl FnOnce(&mut VariantBuilder) -> Result<(), Refusal>) {
-    let before = all(b);
-    let refusal = call(b).unwrap_err();
-    assert_eq!(refusal.number(), number);
-    assert!(refusal.to_string().starts_with(&format!("refused {number}: ")));
-    assert!(all(b) == before, "{refusal} changed something");
-}
-
-fn all(b: &mut VariantBuilder) -> ([Vec<usize>; 3], [Vec<u8>; 2]) {
-    let words = b.words().to_vec();
-    let s = b.storage_mut();
-    ([words, s.ends.to_vec(), s.entries.to_vec()], [s.value.to_vec(), s.text.to_vec()])
-}
-
-fn finish(b: &mut VariantBuilder, size: usize) -> Result<(), Refusal> {
-    let mut out = vec![7; size];
-    let answer = b.finish(&mut out).map(|_| ());
-    assert!(answer.is_ok() || out == vec![7; size]);
-    answer
-}
 
 fn object(unique: bool) -> VariantBuilder<'static> {
     let mut b = VariantBuilder::new();
     b.reset(unique);
     b.new_object(None).unwrap();
     b
-}
-
-/// Every call is refused with that number.
-fn all_refused(number: u8, b: &mut VariantBuilder) {
-    refused(number, b, |b| b.add_field_name(b"a"));
-    refused(number, b, |b| b.append_value(None, ()));
-    refused(number, b, |b| b.append_value(None, "a"));
-    refused(number, b, |b| b.append_value(None, Variant::Uuid([0; 16])));
-    refused(number, b, |b| b.append_civil(None, Date { year: 1970, month: 1, day: 1 }));
-    refused(number, b, |b| b.append_packed(None, 0, &[0x5c]));
-    refused(number, b, |b| b.new_list(None));
-    refused(number, b, |b| b.new_object(None));
-    refused(number, b, |b| b.close());
-    refused(number, b, |b| b.rollback());
-    refused(number, b, |b| b.with_validate_unique_fields(true));
-    refused(number, b, |b| finish(b, 9));
 }
 
 #[test]
@@ -157,21 +122,26 @@ fn depth() {
 
 #[test]
 fn full_and_grown() {
-    let mut b = VariantBuilder::with_capacity(0, 1, 1, 1);
+    let mut b = VariantBuilder::with_capacity(0, 2, 2, 1);
     refused(14, &mut b, |b| b.append_value(None, ()));
-    refused(12, &mut b, |b| b.add_field_name(b"ab"));
+    refused(12, &mut b, |b| b.add_field_name(b"abc"));
     b.add_field_name(b"a").unwrap();
+    b.add_field_name(b"b").unwrap();
     refused(12, &mut b, |b| b.add_field_name(b""));
     b.new_object(None).unwrap();
     b.new_list(Some(b"a")).unwrap();
-    refused(13, &mut b, |b| b.append_value(None, ()));
+    refused(14, &mut b, |b| b.append_value(None, ()));
     refused(14, &mut b, |b| b.close());
-    b.grow(100, 0, 0, 2);
+    b.grow(100, 0, 0, 0);
     b.append_value(None, ()).unwrap();
     b.close().unwrap();
+    refused(13, &mut b, |b| b.append_value(Some(b"b"), ()));
+    refused(13, &mut b, |b| b.new_list(Some(b"b")));
+    b.grow(0, 0, 0, 2);
+    b.append_value(Some(b"b"), ()).unwrap();
     b.close().unwrap();
     finish(&mut b, 9).unwrap();
-    assert_eq!(b.value(), [2, 1, 0, 0, 5, 3, 1, 0, 1, 0]);
+    assert_eq!(b.value(), [2, 2, 0, 1, 0, 5, 6, 3, 1, 0, 1, 0, 0]);
 }
 
 /// A batch file's refusals, and that of a record, behind which reading goes on.

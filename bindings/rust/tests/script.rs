@@ -44,10 +44,25 @@ fn pokes() {
     let answer = answers(script);
     let lines: Vec<&str> = answer.lines().skip(9).collect();
     let counts = "value_used=0 names_used=1 namebytes_used=1 entries_used=1";
-    assert_eq!(lines[0], format!("dump {counts} open=1 unique=0 sorted=- finished=0 floor=1 c0=object:0,0,0,0:1:- value= names=61 e0=0@0"));
+    assert_eq!(
+        lines[0],
+        format!("dump {counts} open=1 unique=0 sorted=- finished=0 floor=1 c0=object:0,0,0,0:1:-:count=- value= names=61 e0=0@0")
+    );
     assert_eq!(lines[1], "refused 10");
     assert!(lines[3].starts_with(&format!("dump {counts} open=65 ")) && lines[3].ends_with(" broken"));
     assert_eq!(lines[4], "refused 1");
+}
+
+#[test]
+fn lists() {
+    let script = "new entries=0\nopen list\nappend null\nopen list\nappend int8 5\ndump\npoke container 0 count 3\ndump\nclose\n\
+        poke container 0 all 0 0 0 0 list 0 new\nrollback\npoke container 0 count +2\npoke container 1 count 2\nclose\npoke container 1 count 1\n\
+        close\nclose\nfinish\n";
+    let counts = "value_used=3 names_used=0 namebytes_used=0 entries_used=0 open=2 unique=0 sorted=- finished=0 floor=1";
+    let containers = |n| format!("dump {counts} c0=list:0,0,0,0:0:-:count={n} c1=list:1,0,0,0:0:new:count=1");
+    let first = format!("new\nok\nok\nok\nok\n{} value=000c05 names= e0=- e1=-\npoked\n", containers(2));
+    let second = format!("{} broken\nrefused 1\npoked\nrefused 1\npoked\npoked\nrefused 1\npoked\nok\nok\n", containers(3));
+    assert_eq!(answers(script), first + &second + "ok value=030200010700030100020c05 dict=010000\n");
 }
 
 #[test]
@@ -260,6 +275,9 @@ poke open
 poke floor
 poke floor -1
 poke container 64 value 0
+poke container 64 count 0
+poke container 0 count
+poke container 0 count x
 poke container 0 kind tree
 poke value 4096 00
 poke nameend 64 0

@@ -3,7 +3,7 @@ use mathlib.Core.Path.{_≡_, refl, sym, _∙_, ap}
 use mathlib.Core.Bool.{Bool, true, false, cond, not, _&&_, true≢false}
 use mathlib.Core.List.{List}
 use mathlib.Core.Option.{Option, none, some}
-use Prim.Native.Nat.{ℕ, _+_, _*_, _^_, _<_}
+use Prim.Native.Nat.{ℕ, _+_, _*_, _^_, _≤_, _<_}
 use native.Mathlib.Omega.{arith}
 use lib.ListN.{length, set}
 use lib.Dec.{ltb}
@@ -19,21 +19,21 @@ use Rattle.container.specs.Entries.{Notes, entryAt, roomFor}
 use Rattle.semantics.specs.declared.ParentEntry.the-variants.{New, Replaced}
 use Rattle.semantics.specs.declared.View.{View}
 use Rattle.semantics.specs.declared.Counts.{Counts}
-use Rattle.semantics.specs.Record.{Storage, Call, isOpen, innerSize, uniqueNow}
-use Rattle.semantics.specs.Table.{numberOf, held, live, liveUnder, namesFull, entriesFull}
+use Rattle.semantics.specs.Record.{Storage, Call, inList, inObject, innerSize, uniqueNow}
+use Rattle.semantics.specs.Table.{numberOf, held, liveUnder, namesFull, entriesFull}
 use Rattle.semantics.specs.Step.{countWith, dictionaryWith, endsWith, entriesWith, parentWith, textWith, withCounts}
 use Rattle.refusals.specs.declared.Field.{Field}
 use Rattle.refusals.specs.declared.Decided.{Decided}
 use Rattle.refusals.specs.Decide.{Decides, enterRows, fieldOf, fullBy, isNew, liveInto, nameOf}
-use Rattle.refusals.proofs.RowLaws.{enter-late}
-use Rattle.refusals.proofs.ViewLaws.{both}
+use Rattle.refusals.proofs.RowLaws.{enter-late, enter-unbroken}
+use Rattle.refusals.proofs.ViewLaws.{both, few-elements}
 use Rattle.actions.specs.declared.enter.Entered.{Entered}
 use Rattle.actions.specs.Actions.{EntersBy, Leaves, Registers, entriesPut, oneMore, parentPut}
 
 -- ---- a call that is refused changes nothing
 
-pub refuses : {v : View} {l : Storage} {c : Call} {n : ℕ} → n ≡ numberOf v l c → (n ≡ 0 → ⊥) → Leaves v l c (record { counts = v .counts; number = n }) l
-refuses {v} {l} {c} {n} e z = let z' = ne-eqb (numberOf v l c) 0 (λ p. z (e ∙ p)) in record { number = e; counts = rw z'; storage = rw z' }
+pub refuses : {v : View} {l : Storage} {c : Call} {n : ℕ} → n ≡ numberOf v l c → (n ≡ 0 → ⊥) → Leaves v l c (record { counts = v .counts; elements = v .elements; number = n }) l
+refuses {v} {l} {c} {n} e z = let z' = ne-eqb (numberOf v l c) 0 (λ p. z (e ∙ p)) in record { number = e; counts = rw z'; elements = rw z'; storage = rw z' }
 
 -- ---- a name
 
@@ -75,6 +75,7 @@ pub record Clears (v : View) (l : Storage) (nm : Option Name) (into opens : Bool
   pub names : namesFull v l nm ≡ false
   pub entries : fullBy into v (liveInto into v l nm) (length (l .entries)) ≡ false
   pub room : fits (v .counts .value) size (length (l .value)) ≡ true
+  pub elements : inList v ≡ true → v .elements ≤ v .counts .value
 
 pub enter-clears : (v : View) (l : Storage) (nm : Option Name) (into opens : Bool) (own size : ℕ) → first (enterRows v l nm into opens own size) ≡ 0 → Clears v l nm into opens size
 enter-clears v l nm into opens own size e =
@@ -84,19 +85,13 @@ enter-clears v l nm into opens own size e =
       names = c 12;
       entries = c 13;
       room = not-false (fits (v .counts .value) size (length (l .value))) (c 14);
+      elements = few-elements v l (enter-unbroken v l nm into opens own size e);
     }
 
 -- ---- what is entered
-live-open : (v : View) (l : Storage) (nm : Option Name) → liveUnder v l nm ≡ true → isOpen v ≡ true
-live-open v l none e = absurd (true≢false (sym e))
-live-open v l (some n) e = go (isOpen v) (live v l n) e
-  where
-    go : (a b : Bool) → (a && b) ≡ true → a ≡ true
-    go true b e = refl
-    go false b e = e
 
 -- a fresh entry has room
-fresh-room : (v : View) (l : Storage) (nm : Option Name) → entriesFull v l nm ≡ false → isOpen v ≡ true → liveUnder v l nm ≡ false → ltb (v .counts .entries) (roomFor (length (l .entries))) ≡ true
+fresh-room : (v : View) (l : Storage) (nm : Option Name) → entriesFull v l nm ≡ false → inObject v ≡ true → liveUnder v l nm ≡ false → ltb (v .counts .entries) (roomFor (length (l .entries))) ≡ true
 fresh-room v l nm e p q = lt-ltb (v .counts .entries) (roomFor (length (l .entries))) (leb-false (roomFor (length (l .entries))) (v .counts .entries) (rw (p, q) at e))
 
 field-of : {into : Bool} {v : View} {l : Storage} {nm : Option Name} {n : ℕ} {d : Decided} → Decides n into v l nm d → d .number ≡ 0 → d .field ≡ fieldOf into v l nm
@@ -104,29 +99,29 @@ field-of {n = n} a z = rw (a .field, eq-eqb n 0 (sym (a .number) ∙ z))
 
 module _ {into : Bool} {v : View} {l : Storage} {nm : Option Name} (opens : Bool) (size : ℕ) {n : ℕ} {d : Decided} {u : Bool} (a : Decides n into v l nm d) (m : u ≡ uniqueNow v) where
   pub entered-refused : (d .number ≡ 0 → ⊥)
-      → EntersBy v l nm into opens size n (record { counts = v .counts; place = 0; id = 0; offset = 0; live = false; fresh = false; unique = u; number = d .number }) (l .text) (l .ends)
+      → EntersBy v l nm into opens size n (record { counts = v .counts; elements = v .elements; place = 0; id = 0; offset = 0; live = false; fresh = false; unique = u; number = d .number }) (l .text) (l .ends)
   entered-refused z =
       let z' = ne-eqb n 0 (λ p. z (a .number ∙ p)) in
       let no : n ≡ 0 → ⊥ = λ p. z (a .number ∙ p) in
-      record { number = a .number; counts = rw z'; unique = m; textLeft = rw z'; endsLeft = rw z'; entries = λ p. absurd (no p); parent = λ p. absurd (no p) }
+      record { number = a .number; counts = rw z'; elements = rw z'; unique = m; textLeft = rw z'; endsLeft = rw z'; entries = λ p. absurd (no p); parent = λ p. absurd (no p) }
 
-  module _ {b : MetadataBuilder} {text ends : List ℕ} {at place : ℕ} {fresh : Bool} {c : Counts} (z : d .number ≡ 0) (h : Named v l nm b text ends) (full : fullBy into v (liveInto into v l nm) (length (l .entries)) ≡ false) (s : at ≡ innerSize v)
-      (o : fresh ≡ ((into && isOpen v) && not (d .field .live))) (p : place ≡ cond (d .field .live) (d .field .place) (v .counts .entries))
-      (k : c ≡ withCounts (v .counts) (v .counts .value + size) (oneMore fresh (v .counts .entries)) (oneMore opens (v .counts .depth)) b) where
+  module _ {b : MetadataBuilder} {text ends : List ℕ} {at place elements : ℕ} {fresh : Bool} {c : Counts} (z : d .number ≡ 0) (h : Named v l nm b text ends) (full : fullBy into v (liveInto into v l nm) (length (l .entries)) ≡ false) (s : at ≡ innerSize v)
+      (o : fresh ≡ ((into && inObject v) && not (d .field .live))) (p : place ≡ cond (d .field .live) (d .field .place) (v .counts .entries))
+      (k : c ≡ withCounts (v .counts) (v .counts .value + size) (oneMore fresh (v .counts .entries)) (oneMore opens (v .counts .depth)) b) (t : elements ≡ oneMore (into && inList v) (v .elements)) where
     abbrev entered : Entered
-    entered = record { counts = c; place = place; id = d .field .id; offset = at; live = d .field .live; fresh = fresh; unique = u; number = 0 }
+    entered = record { counts = c; elements = elements; place = place; id = d .field .id; offset = at; live = d .field .live; fresh = fresh; unique = u; number = 0 }
 
-    -- its entry: a new one, a live name's, or none at the top level and for a register
+    -- its entry: a new one, a live name's, or none at the top level, in a list and for a register
     puts : (entriesPut entered (l .entries) ≡ cond into (entriesWith v l nm) (l .entries)) × (parentPut entered (l .entries) ≡ cond into (parentWith v l nm) New)
     unfolding fieldOf
-    puts = go into (isOpen v) (liveUnder v l nm) refl refl refl
+    puts = go into (inObject v) (liveUnder v l nm) refl refl refl
       where
-        go : (i t b : Bool) → into ≡ i → isOpen v ≡ t → liveUnder v l nm ≡ b
+        go : (i t b : Bool) → into ≡ i → inObject v ≡ t → liveUnder v l nm ≡ b
             → (entriesPut entered (l .entries) ≡ cond into (entriesWith v l nm) (l .entries)) × (parentPut entered (l .entries) ≡ cond into (parentWith v l nm) New)
         go false t b i e q = (rw (o, field-of a z, i), rw (field-of a z, i))
         go true true false i e q = (rw (o, p, field-of a z, s, i, e, q, fresh-room v l nm (rw i at full) e q), rw (field-of a z, i, q))
-        go true false true i e q = absurd (true≢false (sym (live-open v l nm q) ∙ e))
         go true true true i e q = (rw (p, field-of a z, s, i, e, q), rw (p, field-of a z, i, q))
+        go true false true i e q = (rw (p, field-of a z, s, i, e, q), rw (p, field-of a z, i, q))
         go true false false i e q = (rw (o, field-of a z, i, e, q), rw (field-of a z, i, q))
 
     -- one entry more, where a value is entered
@@ -145,6 +140,7 @@ module _ {into : Bool} {v : View} {l : Storage} {nm : Option Name} (opens : Bool
         record {
           number = sym e;
           counts = rw (z', k, counted-entries, h .dictionary);
+          elements = rw (z', t);
           unique = m;
           textLeft = rw z' (h .textLeft);
           endsLeft = rw z' (h .endsLeft);
@@ -160,31 +156,39 @@ module _ (v : View) (l : Storage) (named : Bool) (name : Name) (into opens : Boo
   clear = enter-clears v l (nameOf named name) into opens own size (sym (a .number) ∙ z)
 
   -- of a fresh entry the name is not live
-  fresh-field : ((into && isOpen v) && not (d .field .live)) ≡ true → liveInto into v l (nameOf named name) ≡ false
+  fresh-field : ((into && inObject v) && not (d .field .live)) ≡ true → liveInto into v l (nameOf named name) ≡ false
   unfolding fieldOf
-  fresh-field t = ap (λ (g : Field). g .live) (sym (field-of a z)) ∙ not-true (d .field .live) (both (into && isOpen v) (not (d .field .live)) t .1)
+  fresh-field t = ap (λ (g : Field). g .live) (sym (field-of a z)) ∙ not-true (d .field .live) (both (into && inObject v) (not (d .field .live)) t .1)
 
   -- the counts then are numbers of the machine
   pub enters-bounds : length (l .entries) < 2 ^ 64
-      → (v .counts .value + size < 2 ^ 63) × ((((into && isOpen v) && not (d .field .live)) ≡ true → v .counts .entries < 2 ^ 63) × (opens ≡ true → v .counts .depth < 2 ^ 63))
+      → (v .counts .value + size < 2 ^ 63) × ((((into && inObject v) && not (d .field .live)) ≡ true → v .counts .entries < 2 ^ 63) × (opens ≡ true → v .counts .depth < 2 ^ 63))
   enters-bounds g = (used, (entry, λ o. let h = clear .depth o in omega arith))
     where
       used : v .counts .value + size < 2 ^ 63
       used = let h = leb-true (v .counts .value + size) (counted (length (l .value))) (clear .room) in omega arith
 
-      entry : ((into && isOpen v) && not (d .field .live)) ≡ true → v .counts .entries < 2 ^ 63
+      entry : ((into && inObject v) && not (d .field .live)) ≡ true → v .counts .entries < 2 ^ 63
       entry t =
-          let b = both (into && isOpen v) (not (d .field .live)) t in
+          let b = both (into && inObject v) (not (d .field .live)) t in
           let h = leb-false (roomFor (length (l .entries))) (v .counts .entries) (rw (b .0, fresh-field t) at (clear .entries)) in
           omega arith
 
-  pub enters : {b : MetadataBuilder} {text ends : List ℕ} {at place : ℕ} {c : Counts} → Registers (d .field .new) (v .counts .dictionary) (l .text) (l .ends) name b text ends → at ≡ innerSize v
-      → c ≡ withCounts (v .counts) (v .counts .value + size) (oneMore ((into && isOpen v) && not (d .field .live)) (v .counts .entries)) (oneMore opens (v .counts .depth)) b
+  -- so are a list's elements
+  pub elements-bound : (into && inList v) ≡ true → v .elements < 2 ^ 63
+  elements-bound t =
+      let h = leb-true (v .counts .value + size) (counted (length (l .value))) (clear .room) in
+      let f = clear .elements (both into (inList v) t .1) in
+      omega arith
+
+  pub enters : {b : MetadataBuilder} {text ends : List ℕ} {at place elements : ℕ} {c : Counts} → Registers (d .field .new) (v .counts .dictionary) (l .text) (l .ends) name b text ends → at ≡ innerSize v
+      → c ≡ withCounts (v .counts) (v .counts .value + size) (oneMore ((into && inObject v) && not (d .field .live)) (v .counts .entries)) (oneMore opens (v .counts .depth)) b
+      → elements ≡ oneMore (into && inList v) (v .elements)
       → place ≡ cond (d .field .live) (d .field .place) (v .counts .entries)
       → EntersBy v l (nameOf named name) into opens size (first (enterRows v l (nameOf named name) into opens own size))
-      (record { counts = c; place = place; id = d .field .id; offset = at; live = d .field .live; fresh = (into && isOpen v) && not (d .field .live); unique = u; number = 0 }) text ends
+      (record { counts = c; elements = elements; place = place; id = d .field .id; offset = at; live = d .field .live; fresh = (into && inObject v) && not (d .field .live); unique = u; number = 0 }) text ends
   unfolding fieldOf
-  enters r s k p = entered-done opens size a m z (named-by named (ap (λ (g : Field). g .new) (field-of a z)) (clear .names) r) (clear .entries) s refl p k
+  enters r s k t p = entered-done opens size a m z (named-by named (ap (λ (g : Field). g .new) (field-of a z)) (clear .names) r) (clear .entries) s refl p k t
 
 -- ---- the entry put
 

@@ -6,3 +6,4 @@ pub mod UndoLaws
 pub mod OpenLaws
 pub mod UniqueLaws
 pub mod FinishLaws
+pub mod ElementLaws

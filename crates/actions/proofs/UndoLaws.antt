@@ -19,7 +19,7 @@ use Rattle.semantics.specs.Step.{countBack, entriesBack, rolledBack, withCounts
 use Rattle.refusals.specs.declared.Undone.{Undone}
 use Rattle.refusals.specs.Decide.{Undoes, placeBack}
 use Rattle.refusals.proofs.ViewLaws.{past}
-use Rattle.actions.specs.Actions.{Leaves, entriesUndone}
+use Rattle.actions.specs.Actions.{Leaves, entriesUndone, siblingsBack}
 
 -- a roll back that is carried out has a container
 pub rollback-open : (v : View) (l : Storage) {n : ℕ} → n ≡ numberOf v l rollBack → n ≡ 0 → 1 ≤ v .counts .depth
@@ -35,15 +35,15 @@ undone-back v l New = refl
 undone-back v l (Replaced id offset) = refl
 
 -- what it leaves
-pub leaves-undone : {v : View} {l : Storage} {d : Undone} {count : ℕ} {cut : MetadataBuilder} {es : List ℕ} → Undoes (numberOf v l rollBack) v l d → d .number ≡ 0
-    → count ≡ cond (ltb 1 (v .counts .depth)) (countBack (v .inner .entries) (v .inner .parent)) (v .inner .entries)
+pub leaves-undone : {v : View} {l : Storage} {d : Undone} {count siblings : ℕ} {cut : MetadataBuilder} {es : List ℕ} → Undoes (numberOf v l rollBack) v l d → d .number ≡ 0
+    → count ≡ cond (ltb 1 (v .counts .depth)) (countBack (v .parent .object) (v .inner .entries) (v .inner .parent)) (v .inner .entries)
     → es ≡ cond (ltb 1 (v .counts .depth)) (entriesUndone (l .entries) (d .place) (v .inner .parent)) (l .entries)
-    → cut ≡ fromParts (v .inner .names) (v .inner .text)
-    → Leaves v l rollBack (record { counts = withCounts (v .counts) (v .inner .value) count (v .counts .depth - 1) cut; number = 0 }) (storageOf (l .value) (l .text) (l .ends) es)
+    → cut ≡ fromParts (v .inner .names) (v .inner .text) → siblings ≡ siblingsBack (v .parent .object) (v .siblings) (v .inner .parent)
+    → Leaves v l rollBack (record { counts = withCounts (v .counts) (v .inner .value) count (v .counts .depth - 1) cut; elements = siblings; number = 0 }) (storageOf (l .value) (l .text) (l .ends) es)
 unfolding rolledBack
-leaves-undone {v} {l} {d} {count} {cut} {es} u z p q t =
+leaves-undone {v} {l} {d} {es = es} u z p q t s =
     let e : numberOf v l rollBack ≡ 0 = sym (u .number) ∙ z in
-    record { number = sym e; counts = rw (e, p, t); storage = rw (e, q) (go (ltb 1 (v .counts .depth)) (rw e at (u .place))) }
+    record { number = sym e; counts = rw (e, p, t); elements = rw (e, s); storage = rw (e, q) (go (ltb 1 (v .counts .depth)) (rw e at (u .place))) }
   where
     go : (b : Bool) → d .place ≡ cond (true && b) (placeBack v l (v .inner .parent)) 0
         → storageOf (l .value) (l .text) (l .ends) (cond b (entriesUndone (l .entries) (d .place) (v .inner .parent)) (l .entries))

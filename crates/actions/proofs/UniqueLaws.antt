@@ -34,5 +34,5 @@ unique-open b l u e =
     let rest = badFloor (viewOf b) || false in
     let g = neither (overUsed (viewOf b) l) (unchained (viewOf b) || rest) (k 1) in
     let f = neither (unchained (viewOf b)) rest (g .1) in
-    let c = and-eq-true-iff (chained (b .containers) d) (grown (viewOf b)) .0 (not-false (chained (b .containers) d && grown (viewOf b)) (f .0)) in
-    (ltb-true 0 d (i .0), leb-true d 64 (and-eq-true-iff (leb d 64) (rising (b .containers) (d - 1)) .0 (c .0) .0))
+    let c = and-eq-true-iff (chained (b .containers) (b .elements) d) (grown (viewOf b)) .0 (not-false (chained (b .containers) (b .elements) d && grown (viewOf b)) (f .0)) in
+    (ltb-true 0 d (i .0), leb-true d 64 (and-eq-true-iff (leb d 64) (rising (b .containers) (b .elements) (d - 1)) .0 (c .0) .0))

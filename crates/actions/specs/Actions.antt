@@ -1,10 +1,10 @@
 -- What a call over pieces of the record gives back and leaves behind, by the definitions of `semantics`; and, for the code, the parts
 -- that calls share.
 use mathlib.Core.Path.{_≡_}
-use mathlib.Core.Bool.{Bool, cond, _&&_}
+use mathlib.Core.Bool.{Bool, cond, not, _&&_}
 use mathlib.Core.List.{List}
 use mathlib.Core.Option.{Option}
-use Prim.Native.Nat.{ℕ, _+_, _*_}
+use Prim.Native.Nat.{ℕ, _+_, _-_, _*_}
 use lib.Dec.{eqb, ltb}
 use lib.ListN.{length, set}
 use Rattle.encoding.specs.Rows.{Row, first}
@@ -18,13 +18,14 @@ use Rattle.metadata.specs.Calls.{added, hasRoom}
 use Rattle.container.specs.declared.Closed.{Closed}
 use Rattle.container.specs.declared.Frame.{Frame}
 use Rattle.container.specs.Entries.{entryAt, roomFor, setEntry}
-use Rattle.container.specs.Close.{closedNumber, closedAt, closes, fronted}
+use Rattle.container.specs.Close.{Closes, closedNumber, outside}
+use Rattle.list.specs.Close.{damaged as damagedList}
 use Rattle.semantics.specs.declared.Counts.{Counts}
 use Rattle.semantics.specs.declared.Container.{Container}
 use Rattle.semantics.specs.declared.ParentEntry.{ParentEntry}
 use Rattle.semantics.specs.declared.ParentEntry.the-variants.{New, Replaced}
 use Rattle.semantics.specs.declared.View.{View}
-use Rattle.semantics.specs.Record.{Storage, Scalars, Call, openIn, uniqueness, finish, scalarOf, uniqueNow}
+use Rattle.semantics.specs.Record.{Storage, Scalars, Call, register, append, openIn, close, rollBack, uniqueness, finish, scalarOf, inList, uniqueNow}
 use Rattle.semantics.specs.Table.{header, numberOf, scalarRows}
 use Rattle.semantics.specs.Step.{carriedOut, countWith, dictionaryOf, dictionaryWith, endsWith, entriesClosed, entriesWith, finished, newContainer, parentWith, textWith, withCounts, withUnique}
 use Rattle.actions.specs.declared.Moved.{Moved}
@@ -34,16 +35,42 @@ use Rattle.actions.specs.declared.UniqueSet.{UniqueSet}
 use Rattle.actions.specs.declared.Ended.{Ended}
 use Rattle.actions.specs.declared.enter.Entered.{Entered}
 
--- the number, the counts and the storage of a call
+-- one more where it is so
+abbrev pub oneMore : Bool → ℕ → ℕ
+oneMore more n = cond more (n + 1) n
+
+-- a parent's elements when a child of it is rolled back: a list's are one less for a new one
+abbrev pub siblingsBack : Bool → ℕ → ParentEntry → ℕ
+siblingsBack object n New = cond (not object) (n - 1) n
+siblingsBack object n (Replaced id offset) = n
+
+-- how many elements the container has that is innermost after a call, of those in the record by `elementsAfter` (`elements-left`,
+-- proofs/ElementLaws)
+abbrev pub elementsLeft : View → Call → ℕ
+elementsLeft v (register n) = v .elements
+elementsLeft v (append nm x) = oneMore (inList v) (v .elements)
+elementsLeft v (openIn nm object) = 0
+elementsLeft v close = v .siblings
+elementsLeft v rollBack = siblingsBack (v .parent .object) (v .siblings) (v .inner .parent)
+elementsLeft v (uniqueness u) = v .elements
+elementsLeft v (finish out) = v .elements
+
+-- the innermost of d open containers has n elements
+abbrev pub elementsPut : List ℕ → ℕ → ℕ → List ℕ
+elementsPut ns d n = cond (ltb 0 d) (set ns (d - 1) n) ns
+
+-- the number, the counts, the elements and the storage of a call
 pub record Leaves (v : View) (l : Storage) (c : Call) (r : Moved) (after : Storage) : Type 0 where
   pub number : r .number ≡ numberOf v l c
   pub counts : r .counts ≡ cond (eqb (numberOf v l c) 0) (carriedOut v l c .counts) (v .counts)
+  pub elements : r .elements ≡ cond (eqb (numberOf v l c) 0) (elementsLeft v c) (v .elements)
   pub storage : after ≡ cond (eqb (numberOf v l c) 0) (carriedOut v l c .storage) l
 
--- of an open also the container
+-- of an open also the container; the elements are of the one that was innermost
 pub record Opens (v : View) (l : Storage) (nm : Option Name) (object : Bool) (r : Opened) (after : Storage) : Type 0 where
   pub number : r .number ≡ numberOf v l (openIn nm object)
   pub counts : r .counts ≡ cond (eqb (numberOf v l (openIn nm object)) 0) (carriedOut v l (openIn nm object) .counts) (v .counts)
+  pub elements : r .elements ≡ cond (eqb (numberOf v l (openIn nm object)) 0) (oneMore (inList v) (v .elements)) (v .elements)
   pub container : r .container ≡ cond (eqb (numberOf v l (openIn nm object)) 0) (newContainer v l nm object) (v .inner)
   pub storage : after ≡ cond (eqb (numberOf v l (openIn nm object)) 0) (carriedOut v l (openIn nm object) .storage) l
 
@@ -77,10 +104,6 @@ entriesPut e es =
 abbrev pub parentPut : Entered → List ℕ → ParentEntry
 parentPut e es = cond (e .live) (Replaced (e .id) (entryAt es (e .place) .offset)) New
 
--- one more where it is so
-abbrev pub oneMore : Bool → ℕ → ℕ
-oneMore more n = cond more (n + 1) n
-
 -- the counts with a name, an entry where a value is entered, a value of that size and, of an open, a container more
 abbrev pub countsWith : View → Storage → Option Name → Bool → Bool → ℕ → Counts
 countsWith v l nm into opens size =
@@ -91,6 +114,7 @@ countsWith v l nm into opens size =
 pub record EntersBy (v : View) (l : Storage) (nm : Option Name) (into opens : Bool) (size n : ℕ) (r : Entered) (text ends : List ℕ) : Type 0 where
   pub number : r .number ≡ n
   pub counts : r .counts ≡ cond (eqb n 0) (countsWith v l nm into opens size) (v .counts)
+  pub elements : r .elements ≡ cond (eqb n 0) (oneMore (into && inList v) (v .elements)) (v .elements)
   pub unique : r .unique ≡ uniqueNow v
   pub textLeft : text ≡ cond (eqb n 0) (textWith v l nm) (l .text)
   pub endsLeft : ends ≡ cond (eqb n 0) (endsWith v l nm) (l .ends)
@@ -112,13 +136,19 @@ childOf c e p object =
     record { value = c .value; names = fieldNames (c .dictionary); text = textSize (c .dictionary); entries = e .counts .entries; parent = p; object = object; unique = e .unique }
 
 -- ---- the innermost's header put before its data
+
+-- an object's frame
 abbrev pub frameOf : View → Frame
 frameOf v = record { start = v .inner .value; used = v .counts .value; from = v .inner .entries; to = v .counts .entries; floor = v .counts .floor }
 
+-- damage that is found as the header is put: an object's marks and counts, a list's and its data
+abbrev pub damagedFront : View → Storage → Bool
+damagedFront v l =
+    cond (v .inner .object) (outside (frameOf v) (length (l .value)) (length (l .entries)))
+    (damagedList (v .inner .value) (v .counts .value) (v .elements) (l .value))
+
 pub record Fronts (v : View) (l : Storage) (r : Closed) (value entries : List ℕ) : Type 0 where
-  pub number : closedNumber r ≡ closes (frameOf v) (length (l .value)) (length (l .entries)) (header v l)
-  pub used : closedAt r ≡ cond (eqb (closedNumber r) 0) (v .counts .value + length (header v l)) 0
-  pub bytes : value ≡ cond (eqb (closedNumber r) 0) (fronted (v .inner .value) (v .counts .value) (header v l) (l .value)) (l .value)
+  pub front : Closes (damagedFront v l) (v .inner .value) (v .counts .value) (header v l) (l .value) r value
   pub entriesLeft : entries ≡ cond (eqb (closedNumber r) 0) (entriesClosed v l) (l .entries)
 
 -- ---- a parent's entry undone: the former offset, at its place

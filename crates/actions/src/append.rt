@@ -115,6 +115,7 @@ fn append_own(
     let c = e.counts;
     let r = Moved {
         counts: c,
+        elements: e.elements,
         number: e.number,
     };
     if e.number != 0 {
@@ -158,6 +159,7 @@ pub fn append_bytes_over(
     let c = e.counts;
     let r = Moved {
         counts: c,
+        elements: e.elements,
         number: e.number,
     };
     if e.number != 0 {
@@ -198,6 +200,7 @@ pub fn append_uuid_over(
     let c = e.counts;
     let r = Moved {
         counts: c,
+        elements: e.elements,
         number: e.number,
     };
     if e.number != 0 {

@@ -1,4 +1,4 @@
-// A name given to a call, added where it is new, and the entry of the value that comes.
+// A name given to a call, added where it is new, and the entry of the value that comes, or of a list the element.
 // Derived from `ParentState::list` and `ParentState::try_object` of parquet-variant 60.1.0, src/builder/list.rs and
 // src/builder/object.rs (see NOTICE). Changed: written in Rattle, entries are lent numbers.
 use container::Entry;
@@ -12,7 +12,7 @@ use semantics::Counts;
 use semantics::ParentEntry;
 use semantics::View;
 ghost use mathlib.Core.Path.{_≡_};
-ghost use mathlib.Core.Bool.{cond, true};
+ghost use mathlib.Core.Bool.{cond, false, true};
 ghost use Prim.Native.Nat.{_+_, _^_, _<_};
 ghost use Rattle.encoding.specs.Rows.{first};
 ghost use Rattle.semantics.specs.Step.{withCounts};
@@ -20,10 +20,11 @@ ghost use Rattle.semantics.specs.Record.{storageOf};
 ghost use Rattle.refusals.specs.Decide.{enterRows, nameOf};
 ghost use Rattle.actions.specs.Actions.{EntersBy, Registers, entriesPut, oneMore, parentPut};
 
-// What a register, an append or an open leaves, up to the entry and the value's bytes: the number; the counts; the entry to be put, in the
-// place of a live name's or as a fresh one; and the uniqueness mark that a child inherits.
+// What a register, an append or an open leaves, up to the entry and the value's bytes: the number; the counts; the innermost container's
+// elements; the entry to be put, in the place of a live name's or as a fresh one; and the uniqueness mark that a child inherits.
 pub struct Entered {
     pub counts: Counts,
+    pub elements: usize,
     pub place: usize,
     pub id: usize,
     pub offset: usize,
@@ -68,25 +69,19 @@ pub fn enter_over(
     let c = v.counts;
     let u = unique_now(v);
     if d.number != 0 {
-        return Entered {
-            counts: c,
-            place: 0,
-            id: 0,
-            offset: 0,
-            live: false,
-            fresh: false,
-            unique: u,
-            number: d.number,
-        };
+        return unentered(c, v.elements, u, d.number);
     }
     let f = d.field;
     let m = c.dictionary;
     let next = with_name(m, text, ends, f.new, name);
     let at = saturating_sub(c.value, v.inner.value);
-    let fresh = (into & (0 < c.depth)) & !f.live;
+    let open = 0 < c.depth;
+    let object = v.inner.object;
+    let fresh = (into & (open & object)) & !f.live;
     let k = counts_with(c, size, fresh, opens, next);
     Entered {
         counts: k,
+        elements: one_more(into & (open & !object), v.elements),
         place: place_of(f.live, f.place, c.entries),
         id: f.id,
         offset: at,
@@ -94,6 +89,23 @@ pub fn enter_over(
         fresh: fresh,
         unique: u,
         number: 0,
+    }
+}
+
+// What a refused call leaves: all as it was.
+fn unentered(c: Counts, elements: usize, unique: bool, number: u8) -> Entered
+    ensures { λ r. ⌜ r ≡ record { counts = c; elements = elements; place = 0; id = 0; offset = 0; live = false; fresh = false; unique = unique; number = number } ⌝ }
+{
+    Entered {
+        counts: c,
+        elements: elements,
+        place: 0,
+        id: 0,
+        offset: 0,
+        live: false,
+        fresh: false,
+        unique: unique,
+        number: number,
     }
 }
 

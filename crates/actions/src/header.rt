@@ -3,8 +3,8 @@
 use crate::Moved;
 use container::Closed;
 use container::Frame;
-use container::close_list;
 use container::close_object;
+use list::close_list;
 use refusals::close_number;
 use semantics::Counts;
 use semantics::View;
@@ -31,6 +31,7 @@ pub fn close_over(
     if n != 0 {
         return Moved {
             counts: c,
+            elements: v.elements,
             number: n,
         };
     }
@@ -48,21 +49,24 @@ pub fn close_over(
                     finished: c.finished,
                     floor: c.floor,
                 },
+                elements: v.siblings,
                 number: 0,
             }
         }
         Closed::Damaged => Moved {
             counts: c,
+            elements: v.elements,
             number: 1,
         },
         Closed::NoRoom => Moved {
             counts: c,
+            elements: v.elements,
             number: 14,
         },
     }
 }
 
-// `most` is the largest id.
+// Of an object its fields, sorted, where `most` is the largest id; of a list its data walked.
 fn put_header(
     v: View,
     most: usize,
@@ -75,16 +79,22 @@ fn put_header(
     ensures { λ r. ⌜ Fronts v (storageOf (now (value .entry)) (now (text .entry)) (now (ends .entry)) (now (entries .entry))) r
         (now (value .exit)) (now (entries .exit)) ⌝ }
 {
-    let f = Frame {
-        start: v.inner.value,
-        used: v.counts.value,
-        from: v.inner.entries,
-        to: v.counts.entries,
-        floor: v.counts.floor,
-    };
     if v.inner.object {
+        let f = Frame {
+            start: v.inner.value,
+            used: v.counts.value,
+            from: v.inner.entries,
+            to: v.counts.entries,
+            floor: v.counts.floor,
+        };
         let m = v.counts.dictionary;
         return close_object(f, most, m, text, ends, value, entries);
     }
-    close_list(f, value, entries)
+    close_list(
+        v.inner.value,
+        v.counts.value,
+        v.elements,
+        v.counts.floor,
+        value,
+    )
 }

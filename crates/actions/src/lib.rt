@@ -16,9 +16,8 @@
 // under the License.
 
 // Each call over pieces of the builder's record: what it sees of the record (`View`), and the lent slices. A piece decides all
-// rows of its call first and then acts; it gives back the number and the counts, of an open and of the
-// uniqueness mark the container. The calls over
-// the whole record are in the crate `builder`, those over state words in `ffi`.
+// rows of its call first and then acts; it gives back the number, the counts and a list's elements, of an open and of the
+// uniqueness mark the container. The calls over the whole record are in the crate `builder`, those over state words in `ffi`.
 // Derived from `ParentState`, `ListState` and `ObjectState` of parquet-variant 60.1.0, src/builder.rs, src/builder/list.rs and
 // src/builder/object.rs (see NOTICE), as are the modules here. Changed: written in Rattle, over counts and lent slices.
 mod append;
@@ -51,15 +50,17 @@ use semantics::Counts;
 pub use undo::rollback_over;
 pub use unique::unique_over;
 
-// A call's number, 0 where it is carried out, and the counts then.
+// A call's number, 0 where it is carried out; the counts then, and the elements of the container that is innermost then.
 pub struct Moved {
     pub counts: Counts,
+    pub elements: usize,
     pub number: u8,
 }
 
-// Those of an open, and the container.
+// Those of an open, with the elements of the container that was innermost, and the new container. That has no elements yet.
 pub struct Opened {
     pub counts: Counts,
+    pub elements: usize,
     pub container: Container,
     pub number: u8,
 }

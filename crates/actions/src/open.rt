@@ -45,6 +45,7 @@ pub fn register(
     let c = e.counts;
     Moved {
         counts: c,
+        elements: e.elements,
         number: e.number,
     }
 }
@@ -69,6 +70,7 @@ pub fn open_over(
         let inner = v.inner;
         return Opened {
             counts: c,
+            elements: e.elements,
             container: inner,
             number: e.number,
         };
@@ -77,6 +79,7 @@ pub fn open_over(
     let before = v.counts;
     Opened {
         counts: c,
+        elements: e.elements,
         container: child(before, e, p, object),
         number: 0,
     }

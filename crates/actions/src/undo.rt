@@ -11,9 +11,10 @@ use semantics::ParentEntry;
 use semantics::View;
 ghost use mathlib.Core.Path.{_≡_};
 ghost use mathlib.Core.Bool.{cond};
+ghost use Prim.Native.Nat.{_-_};
 ghost use Rattle.semantics.specs.Record.{rollBack, storageOf};
 ghost use Rattle.semantics.specs.Step.{countBack};
-ghost use Rattle.actions.specs.Actions.{Leaves, entriesUndone};
+ghost use Rattle.actions.specs.Actions.{Leaves, entriesUndone, siblingsBack};
 
 pub fn rollback_over(
     v: View,
@@ -30,12 +31,14 @@ pub fn rollback_over(
     if d.number != 0 {
         return Moved {
             counts: c,
+            elements: v.elements,
             number: d.number,
         };
     }
     let k = v.inner;
     let p = k.parent;
-    let count = undo(1 < c.depth, p, k.entries, d.place, entries);
+    let object = v.parent.object;
+    let count = undo(1 < c.depth, object, p, k.entries, d.place, entries);
     let cut = from_parts(k.names, k.text);
     Moved {
         counts: Counts {
@@ -47,30 +50,51 @@ pub fn rollback_over(
             finished: c.finished,
             floor: c.floor,
         },
+        elements: siblings_left(object, p, v.siblings),
         number: 0,
     }
 }
 
-// Below the top level the parent's entry: the former offset again for a replaced one, one entry less for a new one. The result
+// Below the top level an object's entry: the former offset again for a replaced one, one entry less for a new one. The result
 // is how many entries are used.
 fn undo(
     below: bool,
+    object: bool,
     parent: ParentEntry,
     count: usize,
     place: usize,
     entries: &mut [usize],
 ) -> usize
-    ensures { λ r. ⌜ (r ≡ cond below (countBack count parent) count) ×
+    ensures { λ r. ⌜ (r ≡ cond below (countBack object count parent) count) ×
         (now (entries .exit) ≡ cond below (entriesUndone (now (entries .entry)) place parent) (now (entries .entry))) ⌝ }
 {
     if !below {
         return count;
     }
     match parent {
-        ParentEntry::New => saturating_sub(count, 1),
+        ParentEntry::New => one_less(object, count),
         ParentEntry::Replaced { id: _, offset } => {
             replace_offset(entries, place, offset);
             count
         }
     }
+}
+
+// The elements of a parent that is a list: one less for a new child.
+fn siblings_left(object: bool, parent: ParentEntry, siblings: usize) -> usize
+    ensures { λ r. ⌜ r ≡ siblingsBack object siblings parent ⌝ }
+{
+    match parent {
+        ParentEntry::New => one_less(!object, siblings),
+        ParentEntry::Replaced { id: _, offset: _ } => siblings,
+    }
+}
+
+fn one_less(less: bool, n: usize) -> usize
+    ensures { λ r. ⌜ r ≡ cond less (n - 1) n ⌝ }
+{
+    if less {
+        return saturating_sub(n, 1);
+    }
+    n
 }

@@ -3,7 +3,7 @@ use mathlib.Core.Path.{_≡_, refl, sym, _∙_, ap}
 use mathlib.Core.Bool.{Bool, true, false, cond}
 use mathlib.Core.List.{List}
 use mathlib.Core.Option.{Option}
-use Prim.Native.Nat.{ℕ, _-_, _≤_, _<_}
+use Prim.Native.Nat.{ℕ, _+_, _-_, _≤_, _<_}
 use lib.Dec.{eqb}
 use lib.ListN.{set}
 use borrow.Author.Tests.{eqb-true, eq-eqb, ne-eqb, leb-false}
@@ -23,7 +23,8 @@ use Rattle.actions.specs.declared.Opened.{Opened}
 use Rattle.builder.specs.Calls.{answerNumber, answerOf, state, calledBy, Does, finishAnswer, Finishes}
 use Rattle.actions.specs.declared.UniqueSet.{UniqueSet}
 use Rattle.actions.specs.declared.Ended.{Ended}
-use Rattle.actions.specs.Actions.{Leaves, Opens, SetsUnique, Ends}
+use Rattle.actions.specs.Actions.{Leaves, Opens, SetsUnique, Ends, elementsPut}
+use Rattle.actions.proofs.ElementLaws.{Stays, elements-left, elements-opened}
 use Rattle.actions.proofs.UniqueLaws.{unique-open}
 
 -- an answer has the number that it is made of
@@ -57,19 +58,23 @@ module _ (b : Builder) (l : Storage) (c : Call) where
   unfolding step
   step-refused-storage z = rw z
 
--- the record with other counts
+-- the record with other counts and elements
 abbrev withMoved : Builder → Moved → Called
-withMoved b r = record { answer = answerOf (r .number); builder = record { containers = b .containers; counts = r .counts } }
+withMoved b r =
+    record {
+      answer = answerOf (r .number);
+      builder = record { containers = b .containers; elements = elementsPut (b .elements) (r .counts .depth) (r .elements); counts = r .counts };
+    }
 
 -- a call that changes no container
 pub does-moved : (b : Builder) (l : Storage) (c : Call) {v : View} {r : Moved} {e : Storage} {x : Called} → containersAfter (viewOf b) l c (b .containers) ≡ b .containers
-    → v ≡ viewOf b → Leaves v l c r e → x ≡ withMoved b r → Does x e (step (state b l) c)
+    → Stays c → v ≡ viewOf b → Leaves v l c r e → x ≡ withMoved b r → Does x e (step (state b l) c)
 unfolding after
-does-moved b l c {v} {r} {e} {x} k p q d = does (step (state b l) c) (go (eqb (numberOf (viewOf b) l c) 0) refl (rw p at q))
+does-moved b l c {v} {r} {e} {x} k s p q d = does (step (state b l) c) (go (eqb (numberOf (viewOf b) l c) 0) refl (rw p at q))
   where
     go : (t : Bool) → eqb (numberOf (viewOf b) l c) 0 ≡ t → Leaves (viewOf b) l c r e → (x ≡ calledBy (step (state b l) c)) × (e ≡ step (state b l) c .state .storage)
-    go true z q = rw (step-done b l c z, step-done-storage b l c z, d, q .number, q .counts, q .storage, z, k) (refl, refl)
-    go false z q = rw (step-refused b l c z, step-refused-storage b l c z, d, q .number, q .counts, q .storage, z) (refl, refl)
+    go true z q = rw (step-done b l c z, step-done-storage b l c z, d, elements-left b l c s q, q .number, q .counts, q .storage, z, k) (refl, refl)
+    go false z q = rw (step-refused b l c z, step-refused-storage b l c z, d, elements-left b l c s q, q .number, q .counts, q .storage, z) (refl, refl)
 
 -- an open, refused or carried out
 module _ (b : Builder) (l : Storage) (nm : Option Name) (object : Bool) {v : View} {r : Opened} {e : Storage} (p : v ≡ viewOf b) (q : Opens v l nm object r e) where
@@ -79,13 +84,14 @@ module _ (b : Builder) (l : Storage) (nm : Option Name) (object : Bool) {v : Vie
       let z = ne-eqb (numberOf (viewOf b) l (openIn nm object)) 0 (λ f. h (w .number ∙ f)) in
       does (step (state b l) (openIn nm object)) (rw (step-refused b l (openIn nm object) z, step-refused-storage b l (openIn nm object) z, d, w .number, w .storage, z) (refl, refl))
 
-  pub does-opened : {x : Called} → r .number ≡ 0 → x ≡ record { answer = answerOf 0; builder = record { containers = set (b .containers) (b .counts .depth) (r .container); counts = r .counts } }
+  pub does-opened : {x : Called} {outer all : List ℕ} → r .number ≡ 0 → outer ≡ elementsPut (b .elements) (b .counts .depth) (r .elements) → all ≡ elementsPut outer (b .counts .depth + 1) 0
+      → x ≡ record { answer = answerOf 0; builder = record { containers = set (b .containers) (b .counts .depth) (r .container); elements = all; counts = r .counts } }
       → Does x e (step (state b l) (openIn nm object))
   unfolding after
-  does-opened h d =
+  does-opened h o a d =
       let w = rw p at q in
       let z = eq-eqb (numberOf (viewOf b) l (openIn nm object)) 0 (sym (w .number) ∙ h) in
-      does (step (state b l) (openIn nm object)) (rw (step-done b l (openIn nm object) z, step-done-storage b l (openIn nm object) z, d, w .container, w .counts, w .storage, z) (refl, refl))
+      does (step (state b l) (openIn nm object)) (rw (step-done b l (openIn nm object) z, step-done-storage b l (openIn nm object) z, d, a, o, w .elements, w .container, w .counts, w .storage, z, elements-opened b) (refl, refl))
 
   -- there is room for the container
   pub opened-deep : r .number ≡ 0 → b .counts .depth < 64
@@ -101,7 +107,7 @@ module _ (b : Builder) (l : Storage) (u : Bool) {v : View} {r : UniqueSet} (p : 
       let z = ne-eqb (numberOf (viewOf b) l (uniqueness u)) 0 (λ f. h (w .number ∙ f)) in
       does (step (state b l) (uniqueness u)) (rw (step-refused b l (uniqueness u) z, step-refused-storage b l (uniqueness u) z, d, w .number, z) (refl, refl))
 
-  pub unique-done : {x : Called} → r .number ≡ 0 → x ≡ record { answer = answerOf 0; builder = record { containers = set (b .containers) (b .counts .depth - 1) (r .container); counts = b .counts } }
+  pub unique-done : {x : Called} → r .number ≡ 0 → x ≡ record { answer = answerOf 0; builder = record { containers = set (b .containers) (b .counts .depth - 1) (r .container); elements = b .elements; counts = b .counts } }
       → Does x l (step (state b l) (uniqueness u))
   unfolding after
   unique-done h d =
@@ -114,7 +120,7 @@ module _ (b : Builder) (l : Storage) (u : Bool) {v : View} {r : UniqueSet} (p : 
 
 -- a finish
 pub does-finished : (b : Builder) (l : Storage) (out : List ℕ) {v : View} {r : Ended} {left : List ℕ} {x : FinishCalled} → v ≡ viewOf b → Ends v l out r left
-    → x ≡ record { answer = finishAnswer (r .number) (r .written); builder = record { containers = b .containers; counts = r .counts } }
+    → x ≡ record { answer = finishAnswer (r .number) (r .written); builder = record { containers = b .containers; elements = b .elements; counts = r .counts } }
     → Finishes x l left (step (state b l) (finish out))
 unfolding step after
 does-finished b l out {v} {r} {left} {x} p q d = go (eqb (numberOf (viewOf b) l (finish out)) 0) refl (rw p at q)

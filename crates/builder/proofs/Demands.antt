@@ -18,7 +18,7 @@ use Rattle.builder.specs.Calls.{state, freshOf, Chain, noCall, aCall, aF
 -- the builder that `new` made is fresh, and so is one made with a floor that is not refused
 pub made-fresh : {b : Builder} (u : Bool) (floor : ℕ) → goodFloor floor ≡ true → b ≡ freshOf u floor → Fresh b
 unfolding freshOf
-made-fresh u floor g e = rw e (record { value = refl; entries = refl; depth = refl; dictionary = refl; finished = refl; containers = length-replicate 64 noContainer; floor = g })
+made-fresh u floor g e = rw e (record { value = refl; entries = refl; depth = refl; dictionary = refl; finished = refl; containers = length-replicate 64 noContainer; elements = length-replicate {A = ℕ} 64 0; floor = g })
 
 pub new-fresh : {b : Builder} (u : Bool) → b ≡ freshOf u 1 → Fresh b
 new-fresh u e = made-fresh u 1 refl e

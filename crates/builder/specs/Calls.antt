@@ -61,11 +61,11 @@ finishCalledBy o = record { answer = finishAnswer (o .number) (o .written); buil
 abbrev pub Finishes : FinishCalled → Storage → List ℕ → Outcome → Type 0
 Finishes r after out o = (r ≡ finishCalledBy o) × (after ≡ o .state .storage) × (out ≡ o .output) × (finishNumber (r .answer) ≡ o .number) × (bytesWritten (r .answer) ≡ o .written)
 
--- document 01, "A fresh builder: nothing used or open, .. no finish accepted, either uniqueness mark". Its containers, which are left
--- free, are all empty.
+-- document 01, "A fresh builder: nothing used or open, .. no finish accepted, either uniqueness mark". Its containers and their elements,
+-- which are left free, are all empty.
 unfoldable pub freshOf : Bool → ℕ → Builder
 freshOf u floor =
-    record { containers = replicate 64 noContainer; counts = freshCounts u floor }
+    record { containers = replicate 64 noContainer; elements = replicate 64 0; counts = freshCounts u floor }
 
 -- document 02, A10, a builder made with a floor: its one row's number, and either way the builder that holds that floor
 abbrev pub Makes : Called → Bool → ℕ → Type 0

@@ -8,6 +8,7 @@ use crate::view::answer_of;
 use crate::view::called;
 use crate::view::called_with;
 use crate::view::view_of;
+use crate::view::with_elements;
 use actions::append_bytes_over;
 use actions::append_civil_over;
 use actions::append_packed_over;
@@ -206,7 +207,11 @@ fn new_container(
     }
     let k = r.container;
     let c = r.counts;
-    called_with(b, b.counts.depth, k, c)
+    let d = b.counts.depth;
+    let ns = b.elements;
+    let outer = with_elements(ns, d, r.elements);
+    let all = with_elements(outer, d + 1, 0);
+    called_with(b, all, d, k, c)
 }
 
 pub fn close(
@@ -262,7 +267,8 @@ pub fn with_validate_unique_fields(
     }
     let k = r.container;
     let c = b.counts;
-    called_with(b, b.counts.depth - 1, k, c)
+    let ns = b.elements;
+    called_with(b, ns, b.counts.depth - 1, k, c)
 }
 
 // The dictionary at the start of `out`, and the builder finished: `VariantBuilder::finish` of the Rust.
@@ -282,9 +288,11 @@ pub fn finish(
     let v = view_of(b);
     let r = finish_over(v, value, text, ends, entries, out);
     let cs = b.containers;
+    let ns = b.elements;
     let c = r.counts;
     let next = Builder {
         containers: cs,
+        elements: ns,
         counts: c,
     };
     FinishCalled {

@@ -3,6 +3,7 @@ use crate::Answer;
 use crate::Called;
 use actions::Moved;
 use refusals::make_number;
+use refusals::saturating_sub;
 use semantics::Builder;
 use semantics::Container;
 use semantics::Counts;
@@ -12,8 +13,9 @@ use semantics::no_container;
 ghost use mathlib.Core.Path.{_≡_};
 ghost use Prim.Native.Nat.{_<_};
 ghost use lib.ListN.{set};
-ghost use Rattle.semantics.specs.Record.{chained, innermost, parentOf, viewOf};
-ghost use Rattle.semantics.specs.Record.{under as underOf};
+ghost use Rattle.semantics.specs.Record.{chained, innerElements, innermost, parentElements, parentOf, viewOf};
+ghost use Rattle.semantics.specs.Record.{encloses as enclosesOf, under as underOf};
+ghost use Rattle.actions.specs.Actions.{elementsPut};
 ghost use Rattle.builder.specs.Calls.{Makes, answerOf, freshOf};
 
 // A fresh builder of floor 1, under which every width is the least; children inherit the uniqueness mark.
@@ -41,9 +43,11 @@ fn fresh(unique: bool, floor: usize) -> Builder
 {
     let e = no_container();
     let cs = [e; 64];
+    let ns = [0; 64];
     let c = fresh_counts(unique, floor);
     Builder {
         containers: cs,
+        elements: ns,
         counts: c,
     }
 }
@@ -54,12 +58,13 @@ pub(crate) fn view_of(b: Builder) -> View
     let c = b.counts;
     let k = inner_of(b);
     let p = parent_of(b);
-    let h = chain_of(b);
     View {
         counts: c,
         inner: k,
+        elements: elements_of(b),
         parent: p,
-        chain: h,
+        siblings: siblings_of(b),
+        chain: chain_of(b),
     }
 }
 
@@ -89,9 +94,37 @@ fn parent_of(b: Builder) -> Container
     b.containers[d - 2]
 }
 
-// Are at most 64 open, and does no starting mark fall from one to the next?
+// The innermost's elements.
+fn elements_of(b: Builder) -> usize
+    ensures { λ r. ⌜ r ≡ innerElements (b .elements) (b .counts .depth) ⌝ }
+{
+    let d = b.counts.depth;
+    if d == 0 {
+        return 0;
+    }
+    if 64 < d {
+        return 0;
+    }
+    b.elements[d - 1]
+}
+
+// The parent's.
+fn siblings_of(b: Builder) -> usize
+    ensures { λ r. ⌜ r ≡ parentElements (b .elements) (b .counts .depth) ⌝ }
+{
+    let d = b.counts.depth;
+    if d < 2 {
+        return 0;
+    }
+    if 65 < d {
+        return 0;
+    }
+    b.elements[d - 2]
+}
+
+// Are at most 64 open, does no starting mark fall from one to the next, and does no list with a child open in it count too much?
 fn chain_of(b: Builder) -> bool
-    ensures { λ r. ⌜ r ≡ chained (b .containers) (b .counts .depth) ⌝ }
+    ensures { λ r. ⌜ r ≡ chained (b .containers) (b .elements) (b .counts .depth) ⌝ }
 {
     let d = b.counts.depth;
     if 64 < d {
@@ -101,15 +134,24 @@ fn chain_of(b: Builder) -> bool
         return true;
     }
     let cs = b.containers;
+    let ns = b.elements;
     let mut ok = true;
     let mut i = d - 1;
     while 0 < i {
         let l = cs[i];
         i -= 1;
         let k = cs[i];
-        ok = ok & under(k, l);
+        ok = ok & encloses(k, ns[i], l);
     }
     ok
+}
+
+// The step from a container of n elements to the one open in it; one above the data's bytes is that child.
+fn encloses(k: Container, n: usize, l: Container) -> bool
+    ensures { λ r. ⌜ r ≡ enclosesOf k n l ⌝ }
+{
+    let above = saturating_sub(n, saturating_sub(l.value, k.value));
+    under(k, l) & (k.object | (above <= 1))
 }
 
 fn under(k: Container, l: Container) -> bool
@@ -127,14 +169,23 @@ pub(crate) fn answer_of(n: u8) -> Answer
     Answer::Refused(n)
 }
 
-// The record with other counts.
+// The record with other counts, and other elements of the container that is innermost then.
 pub(crate) fn called(b: Builder, r: Moved) -> Called
-    ensures { λ x. ⌜ x ≡ record { answer = answerOf (r .number); builder = record { containers = b .containers; counts = r .counts } } ⌝ }
+    ensures { λ x. ⌜ x ≡ record {
+      answer = answerOf (r .number);
+      builder = record {
+        containers = b .containers;
+        elements = elementsPut (b .elements) (r .counts .depth) (r .elements);
+        counts = r .counts;
+      };
+    } ⌝ }
 {
     let cs = b.containers;
+    let ns = b.elements;
     let c = r.counts;
     let next = Builder {
         containers: cs,
+        elements: with_elements(ns, c.depth, r.elements),
         counts: c,
     };
     Called {
@@ -143,15 +194,31 @@ pub(crate) fn called(b: Builder, r: Moved) -> Called
     }
 }
 
-// The record with another container at a place, and other counts.
-pub(crate) fn called_with(b: Builder, at: usize, k: Container, c: Counts) -> Called
+// The elements with n of the innermost of d containers.
+pub(crate) fn with_elements(ns: [usize; 64], d: usize, n: usize) -> [usize; 64]
+    ensures { λ r. ⌜ r ≡ elementsPut ns d n ⌝ }
+{
+    if d == 0 {
+        return ns;
+    }
+    if 64 < d {
+        return ns;
+    }
+    let mut after = ns;
+    after[d - 1] = n;
+    after
+}
+
+// The record with another container at a place, other elements and other counts.
+pub(crate) fn called_with(b: Builder, ns: [usize; 64], at: usize, k: Container, c: Counts) -> Called
     requires { ⌜ at < 64 ⌝ }
-    ensures { λ x. ⌜ x ≡ record { answer = answerOf 0; builder = record { containers = set (b .containers) at k; counts = c } } ⌝ }
+    ensures { λ x. ⌜ x ≡ record { answer = answerOf 0; builder = record { containers = set (b .containers) at k; elements = ns; counts = c } } ⌝ }
 {
     let mut cs = b.containers;
     cs[at] = k;
     let next = Builder {
         containers: cs,
+        elements: ns,
         counts: c,
     };
     Called {

@@ -22,7 +22,7 @@ fn main() {
     let mut value = [0u8; 78];
     let mut text = [0u8; 52];
     let mut ends = [0usize; 8];
-    let mut entries = [0usize; 22];
+    let mut entries = [0usize; 16];
     let mut b = object(new(true), &value, &mut text, &mut ends, &mut entries);
     b = tag(b, &mut value, &mut text, &mut ends, &mut entries);
     b = weight(b, &mut value, &mut text, &mut ends, &mut entries);

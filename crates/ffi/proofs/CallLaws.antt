@@ -1,9 +1,9 @@
 -- A call over state words, from the call over pieces.
-use mathlib.Core.Path.{_≡_, refl, sym, _∙_, ap}
+use mathlib.Core.Path.{_≡_, refl, sym, _∙_, ap, subst}
 use mathlib.Core.Bool.{Bool, true, false, cond, true≢false}
 use mathlib.Core.List.{List}
 use mathlib.Core.Option.{Option}
-use Prim.Native.Nat.{ℕ, _-_, _<_, _≤_}
+use Prim.Native.Nat.{ℕ, _+_, _-_, _<_, _≤_}
 use native.Mathlib.Omega.{arith}
 use lib.Dec.{eqb, ltb}
 use lib.ListN.{length, set}
@@ -30,34 +30,35 @@ use Rattle.actions.specs.declared.Opened.{Opened}
 use Rattle.actions.specs.declared.UniqueSet.{UniqueSet}
 use Rattle.actions.specs.declared.Ended.{Ended}
 use Rattle.actions.specs.declared.enter.Entered.{Entered}
-use Rattle.actions.specs.Actions.{EntersBy, Leaves, Opens, SetsUnique, StoredAs, Ends, childOf, entriesPut, parentPut}
+use Rattle.actions.specs.Actions.{EntersBy, Leaves, Opens, SetsUnique, StoredAs, Ends, childOf, elementsPut, entriesPut, parentPut}
 use Rattle.actions.proofs.EnterLaws.{enter-clears}
 use Rattle.actions.proofs.AppendLaws.{append-refused, append-rows, append-stays, append-writes, stored-stays, stored-writes}
 use Rattle.actions.proofs.OpenLaws.{opens, opens-refused, registers}
 use Rattle.actions.proofs.UniqueLaws.{unique-open}
+use Rattle.actions.proofs.ElementLaws.{Stays, elements-left, elements-opened}
 use Rattle.ffi.specs.Scalars.{bytesBy, kindOf, noScalar}
-use Rattle.ffi.specs.Words.{builderOf, containersOf, countsOf, stateOf, countsPut, wordsLeft, DoesWords, EntersWords, FinishesWords, Puts, PutsContainer, PutsCounts}
-use Rattle.ffi.proofs.WordLaws.{containers-length}
+use Rattle.ffi.specs.Words.{builderOf, containersOf, countsOf, elementsOf, innerLeft, stateOf, wordsLeft, DoesWords, EntersWords, FinishesWords, Puts, PutsContainer, PutsCounts, PutsElements, PutsInner}
+use Rattle.ffi.proofs.WordLaws.{containers-length, elements-length}
 
 -- what the maker leaves is a fresh builder
 pub new-fresh : (ws us : List ℕ) (u : Bool) (floor : ℕ) → goodFloor floor ≡ true → PutsCounts ws us (freshCounts u floor) → Fresh (builderOf us)
-new-fresh ws us u floor g e = rw (e .builder) (record { value = refl; entries = refl; depth = refl; dictionary = refl; finished = refl; containers = containers-length ws; floor = g })
+new-fresh ws us u floor g e = rw (e .builder) (record { value = refl; entries = refl; depth = refl; dictionary = refl; finished = refl; containers = containers-length ws; elements = elements-length ws; floor = g })
 
 -- a call that changes no container
 pub does-moved : (ws : List ℕ) (l : Storage) (c : Call) {v : View} {r : Moved} {e : Storage} {n : ℕ} {us : List ℕ}
-    → containersAfter (viewOf (builderOf ws)) l c (containersOf ws) ≡ containersOf ws → ((b : Builder) → wordsLeft ws c b ≡ countsPut ws (b .counts))
+    → containersAfter (viewOf (builderOf ws)) l c (containersOf ws) ≡ containersOf ws → Stays c → ((b : Builder) → wordsLeft ws c b ≡ innerLeft ws c b)
     → v ≡ viewOf (builderOf ws) → Leaves v l c r e → Puts r n ws us → DoesWords n ws us l e c
 unfolding step after
-does-moved ws l c {v} {r} {e} {n} {us} k m p q w = go (eqb (numberOf (viewOf (builderOf ws)) l c) 0) refl (rw p at q)
+does-moved ws l c {v} {r} {e} {n} {us} k s m p q w = go (eqb (numberOf (viewOf (builderOf ws)) l c) 0) refl (rw p at q)
   where
     go : (t : Bool) → eqb (numberOf (viewOf (builderOf ws)) l c) 0 ≡ t → Leaves (viewOf (builderOf ws)) l c r e → DoesWords n ws us l e c
     go true z q =
         let h : r .number ≡ 0 = q .number ∙ eqb-true (numberOf (viewOf (builderOf ws)) l c) 0 z in
         record {
           number = rw z (w .number ∙ h);
-          builder = rw (z, k) (w .put h .builder ∙ (rw (q .counts, z) refl));
+          builder = rw (z, k) (w .put h .builder ∙ (rw (elements-left (builderOf ws) l c s q, q .counts, z) refl));
           storage = rw (q .storage, z) refl;
-          words = rw (w .number ∙ h, z, m (after (stateOf ws l) c .builder)) (w .put h .words ∙ (rw (q .counts, z) refl));
+          words = rw (w .number ∙ h, z, m (after (stateOf ws l) c .builder)) (w .put h .words ∙ (rw (q .counts, q .elements, z) refl));
         }
     go false z q =
         let h : r .number ≡ 0 → ⊥ = λ g. eqb-false (numberOf (viewOf (builderOf ws)) l c) 0 z (sym (q .number) ∙ g) in
@@ -70,45 +71,51 @@ does-moved ws l c {v} {r} {e} {n} {us} k m p q w = go (eqb (numberOf (viewOf (bu
 
 -- ---- what is entered
 
--- the counts are put back where the number is 0
+-- the counts and the elements are put back where the number is 0
 abbrev Put : Entered → List ℕ → List ℕ → Type 0
-Put e ws us = Puts (record { counts = e .counts; number = e .number }) (e .number) ws us
+Put e ws us = Puts (record { counts = e .counts; elements = e .elements; number = e .number }) (e .number) ws us
 
-puts-entered : {ws us : List ℕ} {l : Storage} {nm : Option Name} {into opens : Bool} {own size : ℕ} {e : Entered} {text ends : List ℕ} → EntersWords ws us l nm into opens own size e text ends → Put e ws us
-puts-entered w = record { number = refl; put = w .put; kept = w .kept }
+-- of a call that opens nothing, so that as many containers are open as were
+puts-entered : {ws us : List ℕ} {l : Storage} {nm : Option Name} {into : Bool} {own size : ℕ} {e : Entered} {text ends : List ℕ} → EntersWords ws us l nm into false own size e text ends → Put e ws us
+puts-entered {ws} {us} {e = e} w =
+    record {
+      number = refl;
+      put = λ z. let n = eq-eqb _ 0 (sym (w .enters .number) ∙ z) in let d : e .counts .depth ≡ countsOf ws .depth = rw (w .enters .counts, n) in subst (λ n. PutsInner ws us (e .counts) n (e .elements)) (sym d) (w .put z);
+      kept = w .kept;
+    }
 
 module _ (ws : List ℕ) (l : Storage) (nm : Option Name) (into opens : Bool) (own size : ℕ) {v : View} {e : Entered} {text ends : List ℕ} (p : v ≡ viewOf (builderOf ws))
     (a : EntersBy v l nm into opens size (first (enterRows v l nm into opens own size)) e text ends) where
   pub enters-refused : (e .number ≡ 0 → ⊥) → EntersWords ws ws l nm into opens own size e text ends
   enters-refused z = record { enters = rw p at a; put = λ h. absurd (z h); kept = λ f. refl }
 
-  pub enters-done : {us : List ℕ} → e .number ≡ 0 → PutsCounts ws us (e .counts) → EntersWords ws us l nm into opens own size e text ends
+  pub enters-done : {us : List ℕ} → e .number ≡ 0 → PutsInner ws us (e .counts) (countsOf ws .depth) (e .elements) → EntersWords ws us l nm into opens own size e text ends
   enters-done z w = record { enters = rw p at a; put = λ h. w; kept = λ f. absurd (f z) }
 
 -- an append, from what is entered
 module _ (ws : List ℕ) (l : Storage) (nm : Option Name) (x : Scalars) {own size : ℕ} {e : Entered} {us text ends : List ℕ} (o : own ≡ first (scalarRows x))
     (s : own ≡ 0 → size ≡ length (scalarBytes (scalarOf x))) (w : EntersWords ws us l nm true false own size e text ends) where
   pub does-refused : (e .number ≡ 0 → ⊥) → DoesWords (e .number) ws us l (storageOf (l .value) text ends (l .entries)) (append nm x)
-  does-refused z = does-moved ws l (append nm x) refl (λ b. refl) refl (append-stays x o s (w .enters) z) (puts-entered w)
+  does-refused z = does-moved ws l (append nm x) refl tt (λ b. refl) refl (append-stays x o s (w .enters) z) (puts-entered w)
 
   pub does-appended : {p : Placed} {value entries : List ℕ} → e .number ≡ 0 → entries ≡ entriesPut e (l .entries) → (own ≡ 0 → Writes (countsOf ws .value) (scalarBytes (scalarOf x)) (l .value) p value)
       → DoesWords 0 ws us l (storageOf value text ends entries) (append nm x)
-  does-appended z g b = rw z at (does-moved ws l (append nm x) refl (λ b. refl) refl (append-writes x o s (w .enters) z g b) (puts-entered w))
+  does-appended z g b = rw z at (does-moved ws l (append nm x) refl tt (λ b. refl) refl (append-writes x o s (w .enters) z g b) (puts-entered w))
 
 -- one that is stored as a scalar of fixed size
 module _ (ws : List ℕ) (l : Storage) (nm : Option Name) {s : Scalars} {x : Variant} {own size : ℕ} {e : Entered} {us text ends : List ℕ} (t : StoredAs s x own)
     (h : size ≡ length (scalarBytes (storedVariant x))) (w : EntersWords ws us l nm true false own size e text ends) where
   pub stored-refused : (e .number ≡ 0 → ⊥) → DoesWords (e .number) ws us l (storageOf (l .value) text ends (l .entries)) (append nm s)
-  stored-refused z = does-moved ws l (append nm s) refl (λ b. refl) refl (stored-stays t h (w .enters) z) (puts-entered w)
+  stored-refused z = does-moved ws l (append nm s) refl tt (λ b. refl) refl (stored-stays t h (w .enters) z) (puts-entered w)
 
   pub stored-appended : {p : Placed} {value entries : List ℕ} → e .number ≡ 0 → entries ≡ entriesPut e (l .entries) → Writes (countsOf ws .value) (scalarBytes (storedVariant x)) (l .value) p value
       → DoesWords 0 ws us l (storageOf value text ends entries) (append nm s)
-  stored-appended z g b = rw z at (does-moved ws l (append nm s) refl (λ b. refl) refl (stored-writes t h (w .enters) z g b) (puts-entered w))
+  stored-appended z g b = rw z at (does-moved ws l (append nm s) refl tt (λ b. refl) refl (stored-writes t h (w .enters) z g b) (puts-entered w))
 
 -- a name registered
 pub does-registered : (ws : List ℕ) (l : Storage) (name : Name) {e : Entered} {us text ends : List ℕ} → EntersWords ws us l (nameOf true name) false false 0 0 e text ends
     → DoesWords (e .number) ws us l (storageOf (l .value) text ends (l .entries)) (register name)
-does-registered ws l name w = does-moved ws l (register name) refl (λ b. refl) refl (registers name (w .enters)) (puts-entered w)
+does-registered ws l name w = does-moved ws l (register name) refl tt (λ b. refl) refl (registers name (w .enters)) (puts-entered w)
 
 -- bytes of a kind by its code, from what is entered
 module _ (ws : List ℕ) (l : Storage) (nm : Option Name) (kind : ℕ) (bs : List ℕ) {own size : ℕ} {e : Entered} {us text ends : List ℕ}
@@ -123,7 +130,7 @@ module _ (ws : List ℕ) (l : Storage) (nm : Option Name) (kind : ℕ) (bs : Lis
   bytes-refused z = go (ltb 3 kind) refl
     where
       go : (t : Bool) → ltb 3 kind ≡ t → DoesWords (e .number) ws us l (storageOf (l .value) text ends (l .entries)) (append nm (bytesBy kind bs))
-      go true p = rw p (does-moved ws l (append nm (fixed noScalar)) refl (λ b. refl) refl (append-refused (fixed noScalar) own (unknown (rw p at o)) (w .enters) z) (puts-entered w))
+      go true p = rw p (does-moved ws l (append nm (fixed noScalar)) refl tt (λ b. refl) refl (append-refused (fixed noScalar) own (unknown (rw p at o)) (w .enters) z) (puts-entered w))
       go false p = rw p (does-refused ws l nm (bytes (kindOf kind) bs) (rw p at o) (λ _. s) w z)
 
   pub bytes-appended : {p : Placed} {value entries : List ℕ} → e .number ≡ 0 → entries ≡ entriesPut e (l .entries) → Writes (countsOf ws .value) (scalarBytes (storedBytes (kindOf kind) bs)) (l .value) p value
@@ -139,9 +146,12 @@ module _ (ws : List ℕ) (l : Storage) (nm : Option Name) (kind : ℕ) (bs : Lis
 
 -- ---- a container put
 
--- the two parts of what words mean
+-- the parts of what words mean
 containers-of : (us : List ℕ) {b : Builder} → builderOf us ≡ b → containersOf us ≡ b .containers
 containers-of us e = ap (λ (b : Builder). b .containers) e
+
+elements-of : (us : List ℕ) {b : Builder} → builderOf us ≡ b → elementsOf us ≡ b .elements
+elements-of us e = ap (λ (b : Builder). b .elements) e
 
 counts-of : (us : List ℕ) {b : Builder} → builderOf us ≡ b → countsOf us ≡ b .counts
 counts-of us e = ap (λ (b : Builder). b .counts) e
@@ -158,12 +168,14 @@ module _ (ws : List ℕ) (l : Storage) (nm : Option Name) (object : Bool) {r : O
       let z = ne-eqb (numberOf (viewOf (builderOf ws)) l (openIn nm object)) 0 (λ f. h (q .number ∙ f)) in
       record { number = rw z (q .number); builder = rw z refl; storage = rw (q .storage, z) refl; words = rw (ne-eqb (r .number) 0 h) refl }
 
-  open-done : {us : List ℕ} → r .number ≡ 0 → builderOf us ≡ record { containers = set (containersOf ws) (countsOf ws .depth) (r .container); counts = r .counts }
+  open-done : {us : List ℕ} → r .number ≡ 0
+      → builderOf us
+      ≡ record { containers = set (containersOf ws) (countsOf ws .depth) (r .container); elements = elementsPut (elementsPut (elementsOf ws) (countsOf ws .depth) (r .elements)) (countsOf ws .depth + 1) 0; counts = r .counts }
       → us ≡ wordsLeft ws (openIn nm object) (builderOf us) → DoesWords 0 ws us l e (openIn nm object)
   unfolding step after
   open-done {us} h w k =
       let z = eq-eqb (numberOf (viewOf (builderOf ws)) l (openIn nm object)) 0 (sym (q .number) ∙ h) in
-      let same : builderOf us ≡ after (stateOf ws l) (openIn nm object) .builder = w ∙ (rw (q .container, q .counts, z) refl) in
+      let same : builderOf us ≡ after (stateOf ws l) (openIn nm object) .builder = w ∙ (rw (q .elements, q .container, q .counts, z, elements-opened (builderOf ws)) refl) in
       record { number = rw z refl; builder = rw z same; storage = rw (q .storage, z) refl; words = rw z (k ∙ ap (wordsLeft ws (openIn nm object)) same) }
 
 -- an open, from what is entered
@@ -174,14 +186,20 @@ module _ (ws : List ℕ) (l : Storage) (nm : Option Name) (object : Bool) {e : E
   pub opens-deep : e .number ≡ 0 → countsOf ws .depth < 64
   opens-deep z = enter-clears (viewOf (builderOf ws)) l nm true true 0 0 (sym (w .enters .number) ∙ z) .depth refl
 
-  pub opens-done : {entries xs : List ℕ} {p : ParentEntry} {k : Container} → e .number ≡ 0 → (p ≡ parentPut e (l .entries)) × (entries ≡ entriesPut e (l .entries)) → k ≡ childOf (countsOf ws) e p object
-      → PutsContainer us xs (countsOf ws .depth) k → DoesWords 0 ws xs l (storageOf (l .value) text ends entries) (openIn nm object)
-  opens-done {xs = xs} {k = k} z g c d =
+  pub opens-done : {entries xs ys : List ℕ} {p : ParentEntry} {k : Container} → e .number ≡ 0 → (p ≡ parentPut e (l .entries)) × (entries ≡ entriesPut e (l .entries)) → k ≡ childOf (countsOf ws) e p object
+      → PutsContainer us xs (countsOf ws .depth) k → PutsElements xs ys (countsOf ws .depth + 1) 0 → DoesWords 0 ws ys l (storageOf (l .value) text ends entries) (openIn nm object)
+  opens-done {xs = xs} {ys = ys} {k = k} z g c d y =
       let x = w .put z in
       let f = containers-of us (x .builder) in
+      let i = elements-of us (x .builder) in
       let h = counts-of us (x .builder) in
       let m = container-put (containersOf us) (countsOf ws .depth) k (containers-length us) (opens-deep z) in
-      open-done ws l nm object (opens object (w .enters) z g c) refl (d .builder ∙ rw (f, h)) (rw (containers-of xs (d .builder), counts-of xs (d .builder), m, h, ← x .words) (d .words))
+      let s : builderOf ys ≡ record { containers = set (containersOf us) (countsOf ws .depth) k; elements = elementsPut (elementsOf us) (countsOf ws .depth + 1) 0; counts = countsOf us }
+      = y .builder ∙ rw (containers-of xs (d .builder), elements-of xs (d .builder), counts-of xs (d .builder)) refl in
+      let n = eq-eqb _ 0 (sym (w .enters .number) ∙ z) in
+      let e' = rw n at (w .enters .elements) in
+      open-done ws l nm object (opens object (w .enters) z g c) refl (s ∙ rw (f, i, h))
+      (y .words ∙ rw (d .words, containers-of ys s, counts-of ys s, m, h, x .words, e') refl)
 
 -- the uniqueness mark
 module _ (ws : List ℕ) (l : Storage) (u : Bool) {v : View} {r : UniqueSet} (p : v ≡ viewOf (builderOf ws)) (q : SetsUnique v l u r) where

@@ -5,55 +5,71 @@ use mathlib.Core.List.{List, [], _∷_}
 use Prim.Native.Nat.{ℕ, zero, suc, _+_, _-_, _*_, _≤_, _<_}
 use native.Mathlib.Omega.{arith}
 use lib.ListN.{length, getD, set}
-use lib.Seq.{getD-set-other}
+use lib.Seq.{getD-set-other, getD-set-same}
+use borrow.Author.Tests.{lt-ltb, le-ltb}
 use Rattle.metadata.specs.Names.{fieldNames, textSize}
+use Rattle.semantics.specs.declared.Builder.{Builder}
 use Rattle.semantics.specs.declared.Container.{Container}
 use Rattle.semantics.specs.declared.Counts.{Counts}
 use Rattle.semantics.specs.declared.ParentEntry.{ParentEntry}
 use Rattle.semantics.specs.declared.ParentEntry.the-variants.{New, Replaced}
-use Rattle.semantics.specs.Record.{noContainer, containerAt}
-use Rattle.ffi.specs.Words.{wordAt, flag, countsOf, parentEntryOf, containerFrom, containerOf, containersFrom, containersOf, wordOf, tagOf, idOf, offsetOf, countsPut, containerPut, PutsCounts, PutsContainer}
+use Rattle.semantics.specs.Record.{noContainer, containerAt, elementsAt}
+use Rattle.actions.proofs.ElementLaws.{set-beyond}
+use Rattle.ffi.specs.Words.{wordAt, flag, countsOf, parentEntryOf, containerFrom, containerOf, rowFrom, containersOf, elementsWord, elementsOf, builderOf, wordOf, tagOf, idOf, offsetOf, countsPut, containerPut, PutsCounts, PutsContainer, PutsElements, PutsInner}
 
--- ---- the containers by their places
+-- ---- a row by its places
 
--- the container at depth j of those from i on
-from-at : (ws : List ℕ) (n i j t : ℕ) → j < n → i + j ≡ t → getD (containersFrom ws n i) j noContainer ≡ containerOf ws t
-unfolding containersFrom
-from-at ws zero i j t h e = absurd (omega arith)
-from-at ws (suc n) i zero t h e = ap (λ (m : ℕ). containerOf ws m) (the-same e)
+-- what stands at place j of those from i on
+row-at : {A : Type 0} (f : ℕ → A) (z : A) (n i j t : ℕ) → j < n → i + j ≡ t → getD (rowFrom f n i) j z ≡ f t
+unfolding rowFrom
+row-at f z zero i j t h e = absurd (omega arith)
+row-at f z (suc n) i zero t h e = ap f (the-same e)
   where
     the-same : i + 0 ≡ t → i ≡ t
     the-same e = omega arith
-from-at ws (suc n) i (suc j) t h e = from-at ws n (suc i) j t (omega arith) (omega arith)
+row-at f z (suc n) i (suc j) t h e = row-at f z n (suc i) j t (omega arith) (omega arith)
+
+row-length : {A : Type 0} (f : ℕ → A) (n i : ℕ) → length (rowFrom f n i) ≡ n
+unfolding rowFrom
+row-length f zero i = refl
+row-length f (suc n) i = ap suc (row-length f n (suc i))
+
+-- rows that do not differ
+row-same : {A : Type 0} (f g : ℕ → A) (n i : ℕ) → ((m : ℕ) → i ≤ m → m < i + n → g m ≡ f m) → rowFrom g n i ≡ rowFrom f n i
+unfolding rowFrom
+row-same f g zero i h = refl
+row-same f g (suc n) i h = rw (h i (omega arith) (omega arith), row-same f g n (suc i) (λ m a b. h m (omega arith) (omega arith)))
+
+-- rows that differ at t
+row-set : {A : Type 0} (f g : ℕ → A) (k : A) (n i j t : ℕ) → i + j ≡ t → g t ≡ k → ((m : ℕ) → m < t → g m ≡ f m)
+    → ((m : ℕ) → t < m → m < i + n → g m ≡ f m) → rowFrom g n i ≡ set (rowFrom f n i) j k
+unfolding rowFrom
+row-set f g k zero i j t e here low high = refl
+row-set f g k (suc n) i zero t e here low high =
+    let p : i ≡ t = omega arith in
+    rw (p, here, row-same f g n (suc t) (λ m a b. high m (omega arith) (omega arith)))
+row-set f g k (suc n) i (suc j) t e here low high = rw (low i (omega arith), row-set f g k n (suc i) j t (omega arith) here low (λ m a b. high m a (omega arith)))
+
+-- ---- the containers and their elements
 
 pub container-at : (ws : List ℕ) (d : ℕ) → d < 64 → containerOf ws d ≡ containerAt (containersOf ws) d
 unfolding containersOf
-container-at ws d h = sym (from-at ws 64 0 d d h (omega arith))
-
-from-length : (ws : List ℕ) (n i : ℕ) → length (containersFrom ws n i) ≡ n
-unfolding containersFrom
-from-length ws zero i = refl
-from-length ws (suc n) i = ap suc (from-length ws n (suc i))
+container-at ws d h = sym (row-at (containerOf ws) noContainer 64 0 d d h (omega arith))
 
 pub containers-length : (ws : List ℕ) → length (containersOf ws) ≡ 64
 unfolding containersOf
-containers-length ws = from-length ws 64 0
+containers-length ws = row-length (containerOf ws) 64 0
 
--- words that differ in no container
-from-same : (ws us : List ℕ) (n i : ℕ) → ((m : ℕ) → i ≤ m → containerOf us m ≡ containerOf ws m) → containersFrom us n i ≡ containersFrom ws n i
-unfolding containersFrom
-from-same ws us zero i h = refl
-from-same ws us (suc n) i h = rw (h i (omega arith), from-same ws us n (suc i) (λ m g. h m (omega arith)))
+abbrev elementsIn : List ℕ → ℕ → ℕ
+elementsIn ws i = wordAt ws (elementsWord i)
 
--- words that differ in the container at depth t
-from-set : (ws us : List ℕ) (k : Container) (n i j t : ℕ) → i + j ≡ t → containerOf us t ≡ k → ((m : ℕ) → m < t → containerOf us m ≡ containerOf ws m)
-    → ((m : ℕ) → t < m → containerOf us m ≡ containerOf ws m) → containersFrom us n i ≡ set (containersFrom ws n i) j k
-unfolding containersFrom
-from-set ws us k zero i j t e here low high = refl
-from-set ws us k (suc n) i zero t e here low high =
-    let p : i ≡ t = omega arith in
-    rw (p, here, from-same ws us n (suc t) (λ m g. high m (omega arith)))
-from-set ws us k (suc n) i (suc j) t e here low high = rw (low i (omega arith), from-set ws us k n (suc i) j t (omega arith) here low high)
+pub elements-word : (ws : List ℕ) (d : ℕ) → d < 64 → wordAt ws (elementsWord d) ≡ elementsAt (elementsOf ws) d
+unfolding elementsOf
+elements-word ws d h = sym (row-at (elementsIn ws) 0 64 0 d d h (omega arith))
+
+pub elements-length : (ws : List ℕ) → length (elementsOf ws) ≡ 64
+unfolding elementsOf
+elements-length ws = row-length (elementsIn ws) 64 0
 
 -- ---- a flag's word
 
@@ -93,12 +109,14 @@ unfolding containerFrom
 from-words ws us p h =
     rw (h p (omega arith) (omega arith), h (p + 1) (omega arith) (omega arith), h (p + 2) (omega arith) (omega arith), h (p + 3) (omega arith) (omega arith), h (p + 4) (omega arith) (omega arith), h (p + 5) (omega arith) (omega arith), h (p + 6) (omega arith) (omega arith), h (p + 7) (omega arith) (omega arith), h (p + 8) (omega arith) (omega arith))
 
--- the words with other counts mean the same containers with those counts
+-- the words with other counts mean the same containers and elements with those counts
 pub put-counts : (ws : List ℕ) (c : Counts) → 8 ≤ length ws → PutsCounts ws (countsPut ws c) c
-unfolding containersOf
+unfolding containersOf elementsOf
 put-counts ws c h =
-    let same = from-same ws (countsPut ws c) 64 0 (λ m g. from-words ws (countsPut ws c) (8 + 9 * m) (λ j a b. counts-other ws c j (omega arith))) in
-    record { words = refl; builder = rw (counts-read ws c h, same) }
+    let us = countsPut ws c in
+    let same = row-same (containerOf ws) (containerOf us) 64 0 (λ m g k. from-words ws us (8 + 9 * m) (λ j a b. counts-other ws c j (omega arith))) in
+    let elements = row-same (elementsIn ws) (elementsIn us) 64 0 (λ m g k. counts-other ws c (elementsWord m) (omega arith)) in
+    record { words = refl; builder = rw (counts-read ws c h, same, elements) }
 
 -- ---- a container written
 
@@ -155,13 +173,60 @@ container-counts ws p k h =
     rw (container-below ws p k 0 (omega arith), container-below ws p k 1 (omega arith), container-below ws p k 2 (omega arith), container-below ws p k 3 (omega arith), container-below ws p k 4 (omega arith), container-below ws p k 5 (omega arith), container-below ws p k 6 (omega arith), container-below ws p k 7 (omega arith))
 
 -- the words with another container at depth d mean the builder with that container
-pub put-container : (ws : List ℕ) (d : ℕ) (k : Container) → length ws ≡ 584 → d < 64
+pub put-container : (ws : List ℕ) (d : ℕ) (k : Container) → length ws ≡ 648 → d < 64
     → PutsContainer ws (containerPut ws (8 + 9 * d) k) d k
-unfolding containersOf
+unfolding containersOf elementsOf
 put-container ws d k e h =
     let p = 8 + 9 * d in
     let us = containerPut ws p k in
-    let put = from-set ws us k 64 0 d d (omega arith) (container-read ws p k (omega arith))
+    let put = row-set (containerOf ws) (containerOf us) k 64 0 d d (omega arith) (container-read ws p k (omega arith))
     (λ m g. from-words ws us (8 + 9 * m) (λ j a b. container-below ws p k j (omega arith)))
-    (λ m g. from-words ws us (8 + 9 * m) (λ j a b. container-above ws p k j (omega arith))) in
-    record { words = refl; builder = rw (container-counts ws p k (omega arith), put) }
+    (λ m g i. from-words ws us (8 + 9 * m) (λ j a b. container-above ws p k j (omega arith))) in
+    let elements = row-same (elementsIn ws) (elementsIn us) 64 0 (λ m g i. container-above ws p k (elementsWord m) (omega arith)) in
+    record { words = refl; builder = rw (container-counts ws p k (omega arith), put, elements) }
+
+-- ---- elements written
+
+-- the words before them stay
+elements-below : (ws : List ℕ) (i n j : ℕ) → j < 584 → wordAt (set ws (elementsWord i) n) j ≡ wordAt ws j
+elements-below ws i n j h = getD-set-other ws (elementsWord i) j n 0 (λ e. omega arith)
+
+elements-counts : (ws : List ℕ) (i n : ℕ) → countsOf (set ws (elementsWord i) n) ≡ countsOf ws
+unfolding countsOf
+elements-counts ws i n =
+    rw (elements-below ws i n 0 (omega arith), elements-below ws i n 1 (omega arith), elements-below ws i n 2 (omega arith), elements-below ws i n 3 (omega arith), elements-below ws i n 4 (omega arith), elements-below ws i n 5 (omega arith), elements-below ws i n 6 (omega arith), elements-below ws i n 7 (omega arith))
+
+elements-set : (ws : List ℕ) (i n : ℕ) → length ws ≡ 648 → i < 64
+    → builderOf (set ws (elementsWord i) n) ≡ record { containers = containersOf ws; elements = set (elementsOf ws) i n; counts = countsOf ws }
+unfolding containersOf elementsOf
+elements-set ws i n e h =
+    let us = set ws (elementsWord i) n in
+    let same = row-same (containerOf ws) (containerOf us) 64 0 (λ m g k. from-words ws us (8 + 9 * m) (λ j a b. elements-below ws i n j (omega arith))) in
+    let put = row-set (elementsIn ws) (elementsIn us) n 64 0 i i (omega arith) (getD-set-same ws (elementsWord i) n 0 (omega arith))
+    (λ m g. getD-set-other ws (elementsWord i) (elementsWord m) n 0 (λ q. omega arith))
+    (λ m g k. getD-set-other ws (elementsWord i) (elementsWord m) n 0 (λ q. omega arith)) in
+    rw (elements-counts ws i n, same, put)
+
+-- as the code has it: of none, of more than there are, and of one
+module _ (ws : List ℕ) (d n : ℕ) where
+  pub written-none : d ≡ 0 → PutsElements ws ws d n
+  written-none e = let z = le-ltb 0 d (omega arith) in record { words = rw z; builder = rw z }
+
+  pub written-far : length ws ≡ 648 → 64 < d → PutsElements ws ws d n
+  written-far e h =
+      let z = lt-ltb 0 d (omega arith) in
+      let l = elements-length ws in
+      record { words = rw z (set-beyond ws (elementsWord (d - 1)) n (omega arith)); builder = rw (z, ← set-beyond (elementsOf ws) (d - 1) n (omega arith)) }
+
+  pub put-elements : length ws ≡ 648 → 0 < d → d ≤ 64 → PutsElements ws (set ws (elementsWord (d - 1)) n) d n
+  put-elements e a b =
+      let z = lt-ltb 0 d a in
+      record { words = rw z; builder = rw z (elements-set ws (d - 1) n e (omega arith)) }
+
+-- the counts put, and then the elements
+pub puts-inner : {ws ms us : List ℕ} {c : Counts} {d n : ℕ} → PutsCounts ws ms c → PutsElements ms us d n → PutsInner ws us c d n
+puts-inner {ws} {ms} {us} {c} {d} {n} p q =
+    let k = ap (λ (b : Builder). b .containers) (p .builder) in
+    let e = ap (λ (b : Builder). b .elements) (p .builder) in
+    let o = ap (λ (b : Builder). b .counts) (p .builder) in
+    record { words = q .words ∙ rw (p .words) refl; builder = q .builder ∙ rw (k, e, o) refl }

@@ -1,9 +1,9 @@
--- The state words: 584 numbers, and the builder that they mean. Any words mean one: a flag is "not 0".
+-- The state words: 648 numbers, and the builder that they mean. Any words mean one: a flag is "not 0".
 use mathlib.Core.Path.{_≡_}
 use mathlib.Core.Bool.{Bool, false, cond, not}
 use mathlib.Core.List.{List, [], _∷_}
 use Prim.Native.Nat.{ℕ, zero, suc, _+_, _-_, _*_}
-use lib.Dec.{eqb}
+use lib.Dec.{eqb, ltb}
 use lib.ListN.{getD, set}
 use Rattle.encoding.specs.Rows.{first}
 use Rattle.metadata.specs.Calls.{fromParts}
@@ -12,7 +12,7 @@ use Rattle.semantics.specs.declared.Container.{Container}
 use Rattle.semantics.specs.declared.Counts.{Counts}
 use Rattle.semantics.specs.declared.ParentEntry.{ParentEntry}
 use Rattle.semantics.specs.declared.ParentEntry.the-variants.{New, Replaced}
-use Rattle.semantics.specs.Record.{Storage, State, Call, register, append, openIn, close, rollBack, uniqueness, finish, containerAt, viewOf}
+use Rattle.semantics.specs.Record.{Storage, State, Call, register, append, openIn, close, rollBack, uniqueness, finish, containerAt, inList, viewOf}
 use Rattle.semantics.specs.Table.{makeRows}
 use Rattle.semantics.specs.Step.{step}
 use Rattle.semantics.specs.Run.{freshCounts}
@@ -20,7 +20,7 @@ use mathlib.Core.Option.{Option}
 use Rattle.metadata.specs.Names.{Name, fieldNames, textSize}
 use Rattle.refusals.specs.Decide.{enterRows}
 use Rattle.actions.specs.declared.enter.Entered.{Entered}
-use Rattle.actions.specs.Actions.{EntersBy}
+use Rattle.actions.specs.Actions.{EntersBy, elementsLeft, elementsPut, oneMore}
 use Rattle.actions.specs.declared.Moved.{Moved}
 
 -- the word at place i
@@ -64,17 +64,24 @@ containerFrom ws p =
 abbrev pub containerOf : List ℕ → ℕ → Container
 containerOf ws i = containerFrom ws (8 + 9 * i)
 
--- n containers from depth i on
-unfoldable pub containersFrom : List ℕ → ℕ → ℕ → List Container
-containersFrom ws zero i = []
-containersFrom ws (suc n) i = containerOf ws i ∷ containersFrom ws n (suc i)
+-- n of a row, from i on
+unfoldable pub rowFrom : {A : Type 0} → (ℕ → A) → ℕ → ℕ → List A
+rowFrom f zero i = []
+rowFrom f (suc n) i = f i ∷ rowFrom f n (suc i)
 
 unfoldable pub containersOf : List ℕ → List Container
-containersOf ws = containersFrom ws 64 0
+containersOf ws = rowFrom (containerOf ws) 64 0
+
+-- the elements of the container at depth i: words 584 to 647
+abbrev pub elementsWord : ℕ → ℕ
+elementsWord i = 584 + i
+
+unfoldable pub elementsOf : List ℕ → List ℕ
+elementsOf ws = rowFrom (λ i. wordAt ws (elementsWord i)) 64 0
 
 -- the builder that the words mean
 abbrev pub builderOf : List ℕ → Builder
-builderOf ws = record { containers = containersOf ws; counts = countsOf ws }
+builderOf ws = record { containers = containersOf ws; elements = elementsOf ws; counts = countsOf ws }
 
 abbrev pub stateOf : List ℕ → Storage → State
 stateOf ws l = record { builder = builderOf ws; storage = l }
@@ -124,18 +131,29 @@ containerPut ws p k =
     (p + 8)
     (wordOf (k .unique))
 
+-- the elements of the innermost of d containers
+abbrev pub elementsWritten : List ℕ → ℕ → ℕ → List ℕ
+elementsWritten ws d n = cond (ltb 0 d) (set ws (elementsWord (d - 1)) n) ws
+
 -- the container at depth d put, as it stands in a builder
 abbrev pub containerLeft : List ℕ → ℕ → Builder → List ℕ
 containerLeft ws d b = containerPut ws (8 + 9 * d) (containerAt (b .containers) d)
 
--- the words that a call leaves which is carried out, and b then: the counts', and those of the container that it opens or marks. All
--- other words are as they were.
+-- the counts put, and the elements of the container that is innermost then
+abbrev pub innerLeft : List ℕ → Call → Builder → List ℕ
+innerLeft ws c b = elementsWritten (countsPut ws (b .counts)) (b .counts .depth) (elementsLeft (viewOf (builderOf ws)) c)
+
+-- the words that a call leaves which is carried out, and b then: the counts', those of the container that it opens or marks, and the elements of
+-- the container that is innermost then, of an open also of the one that was. All other words are as they were.
 abbrev pub wordsLeft : List ℕ → Call → Builder → List ℕ
-wordsLeft ws (register n) b = countsPut ws (b .counts)
-wordsLeft ws (append nm x) b = countsPut ws (b .counts)
-wordsLeft ws (openIn nm k) b = containerLeft (countsPut ws (b .counts)) (countsOf ws .depth) b
-wordsLeft ws close b = countsPut ws (b .counts)
-wordsLeft ws rollBack b = countsPut ws (b .counts)
+wordsLeft ws (register n) b = innerLeft ws (register n) b
+wordsLeft ws (append nm x) b = innerLeft ws (append nm x) b
+wordsLeft ws (openIn nm k) b =
+    let v = viewOf (builderOf ws) in
+    let d = countsOf ws .depth in
+    elementsWritten (containerLeft (elementsWritten (countsPut ws (b .counts)) d (oneMore (inList v) (v .elements))) d b) (d + 1) 0
+wordsLeft ws close b = innerLeft ws close b
+wordsLeft ws rollBack b = innerLeft ws rollBack b
 wordsLeft ws (uniqueness u) b = containerLeft ws (countsOf ws .depth - 1) b
 wordsLeft ws (finish out) b = countsPut ws (b .counts)
 
@@ -158,7 +176,7 @@ pub record FinishesWords (n : ℕ) (before after : List ℕ) (l : Storage) (lent
 -- the counts put, and what the words mean then
 pub record PutsCounts (before after : List ℕ) (c : Counts) : Type 0 where
   pub words : after ≡ countsPut before c
-  pub builder : builderOf after ≡ record { containers = containersOf before; counts = c }
+  pub builder : builderOf after ≡ record { containers = containersOf before; elements = elementsOf before; counts = c }
 
 -- a builder made with a floor: its one row's number, and the counts put where that is 0; else the words are as they were
 pub record MakesWords (n : ℕ) (before after : List ℕ) (u : Bool) (floor : ℕ) : Type 0 where
@@ -171,16 +189,26 @@ pub record MakesWords (n : ℕ) (before after : List ℕ) (u : Bool) (floor : �
 -- a container put
 pub record PutsContainer (before after : List ℕ) (d : ℕ) (k : Container) : Type 0 where
   pub words : after ≡ containerPut before (8 + 9 * d) k
-  pub builder : builderOf after ≡ record { containers = set (containersOf before) d k; counts = countsOf before }
+  pub builder : builderOf after ≡ record { containers = set (containersOf before) d k; elements = elementsOf before; counts = countsOf before }
 
--- a piece's number and counts put back: the counts only where the number is 0
+-- the elements of the innermost of d containers put
+pub record PutsElements (before after : List ℕ) (d n : ℕ) : Type 0 where
+  pub words : after ≡ elementsWritten before d n
+  pub builder : builderOf after ≡ record { containers = containersOf before; elements = elementsPut (elementsOf before) d n; counts = countsOf before }
+
+-- the counts and then these
+pub record PutsInner (before after : List ℕ) (c : Counts) (d n : ℕ) : Type 0 where
+  pub words : after ≡ elementsWritten (countsPut before c) d n
+  pub builder : builderOf after ≡ record { containers = containersOf before; elements = elementsPut (elementsOf before) d n; counts = c }
+
+-- a piece's number, counts and elements put back: these only where the number is 0
 pub record Puts (r : Moved) (n : ℕ) (before after : List ℕ) : Type 0 where
   pub number : n ≡ r .number
-  pub put : r .number ≡ 0 → PutsCounts before after (r .counts)
+  pub put : r .number ≡ 0 → PutsInner before after (r .counts) (r .counts .depth) (r .elements)
   pub kept : (r .number ≡ 0 → ⊥) → after ≡ before
 
 -- what a register, an append or an open enters, and the words then
 pub record EntersWords (before after : List ℕ) (l : Storage) (nm : Option Name) (into opens : Bool) (own size : ℕ) (r : Entered) (text ends : List ℕ) : Type 0 where
   pub enters : EntersBy (viewOf (builderOf before)) l nm into opens size (first (enterRows (viewOf (builderOf before)) l nm into opens own size)) r text ends
-  pub put : r .number ≡ 0 → PutsCounts before after (r .counts)
+  pub put : r .number ≡ 0 → PutsInner before after (r .counts) (countsOf before .depth) (r .elements)
   pub kept : (r .number ≡ 0 → ⊥) → after ≡ before

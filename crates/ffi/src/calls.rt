@@ -24,11 +24,14 @@ use crate::scalars::kind_of;
 use crate::scalars::variant_of;
 use crate::words::chain_of;
 use crate::words::counts_of;
+use crate::words::elements_of;
 use crate::words::inner_of;
 use crate::words::moved;
 use crate::words::parent_of;
 use crate::words::put_container;
 use crate::words::put_counts;
+use crate::words::put_elements;
+use crate::words::siblings_of;
 use crate::words::view_of;
 use actions::Entered;
 use actions::child;
@@ -412,6 +415,7 @@ fn new_container(
     let p = note(e, entries);
     let k = child(c, e, p, object);
     put_container(words, c.depth, k);
+    put_elements(words, c.depth + 1, 0);
     0
 }
 
@@ -466,7 +470,8 @@ pub extern "C" fn variant_finish(
     0
 }
 
-// A register, an append or an open, up to its entry and its bytes: where its number is 0 the name is added and the counts are put.
+// A register, an append or an open, up to its entry and its bytes: where its number is 0 the name is added, and the counts and the
+// innermost's elements are put.
 fn enter(
     words: &mut [usize; WORDS],
     value: &[u8],
@@ -487,12 +492,13 @@ fn enter(
     let c = counts_of(words);
     let k = inner_of(words, c.depth);
     let p = parent_of(words, c.depth);
-    let h = chain_of(words, c.depth);
     let v = View {
         counts: c,
         inner: k,
+        elements: elements_of(words, c.depth),
         parent: p,
-        chain: h,
+        siblings: siblings_of(words, c.depth),
+        chain: chain_of(words, c.depth),
     };
     let e = enter_over(
         v,
@@ -512,6 +518,7 @@ fn enter(
     }
     let d = e.counts;
     put_counts(words, d);
+    put_elements(words, c.depth, e.elements);
     e
 }
 

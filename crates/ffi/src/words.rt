@@ -4,6 +4,7 @@ use actions::Moved;
 use metadata::from_parts;
 use metadata::metadata_size;
 use metadata::num_field_names;
+use refusals::saturating_sub;
 use semantics::Container;
 use semantics::Counts;
 use semantics::ParentEntry;
@@ -12,9 +13,9 @@ use semantics::no_container;
 ghost use mathlib.Core.Path.{_≡_};
 ghost use Prim.Native.Nat.{_-_, _<_};
 ghost use lib.ListN.{length};
-ghost use Rattle.semantics.specs.Record.{chained, containerAt, innermost, parentOf, viewOf};
-ghost use Rattle.semantics.specs.Record.{under as underOf};
-ghost use Rattle.ffi.specs.Words.{builderOf, containersOf, countsOf, Puts, PutsContainer, PutsCounts, flag as flagOf, idOf, offsetOf, parentEntryOf, tagOf, wordOf};
+ghost use Rattle.semantics.specs.Record.{chained, containerAt, elementsAt, innerElements, innermost, parentElements, parentOf, viewOf};
+ghost use Rattle.semantics.specs.Record.{encloses as enclosesOf, under as underOf};
+ghost use Rattle.ffi.specs.Words.{builderOf, containersOf, countsOf, elementsOf, Puts, PutsContainer, PutsCounts, PutsElements, flag as flagOf, idOf, offsetOf, parentEntryOf, tagOf, wordOf};
 
 // How many words there are.
 fn count(words: &[usize]) -> usize
@@ -23,9 +24,9 @@ fn count(words: &[usize]) -> usize
     words.len()
 }
 
-// That there are 584 is known of a slice of them.
+// That there are 648 is known of a slice of them.
 fn whole(words: &[usize; WORDS]) -> usize
-    ensures { λ r. ⌜ length (now (words .entry)) ≡ 584 ⌝ }
+    ensures { λ r. ⌜ length (now (words .entry)) ≡ 648 ⌝ }
 {
     count(words)
 }
@@ -117,6 +118,20 @@ pub(crate) fn put_container(words: &mut [usize; WORDS], d: usize, k: Container)
     words[p + 8] = word(k.unique);
 }
 
+// The elements of the innermost of d containers.
+pub(crate) fn put_elements(words: &mut [usize; WORDS], d: usize, n: usize)
+    ensures { λ _. ⌜ PutsElements (now (words .entry)) (now (words .exit)) d n ⌝ }
+{
+    whole(words);
+    if d == 0 {
+        return;
+    }
+    if 64 < d {
+        return;
+    }
+    words[584 + (d - 1)] = n;
+}
+
 pub(crate) fn counts_of(words: &[usize; WORDS]) -> Counts
     ensures { λ r. ⌜ r ≡ countsOf (now (words .entry)) ⌝ }
 {
@@ -158,12 +173,13 @@ pub(crate) fn view_of(words: &[usize; WORDS]) -> View
     let c = counts_of(words);
     let k = inner_of(words, c.depth);
     let p = parent_of(words, c.depth);
-    let h = chain_of(words, c.depth);
     View {
         counts: c,
         inner: k,
+        elements: elements_of(words, c.depth),
         parent: p,
-        chain: h,
+        siblings: siblings_of(words, c.depth),
+        chain: chain_of(words, c.depth),
     }
 }
 
@@ -185,9 +201,37 @@ pub(crate) fn parent_of(words: &[usize; WORDS], d: usize) -> Container
     container_at(words, d - 2)
 }
 
-// Are at most 64 open, and does no starting mark fall from one to the next?
+// The elements of the container at depth d, counted from 0.
+fn elements_at(words: &[usize; WORDS], d: usize) -> usize
+    ensures { λ r. ⌜ r ≡ elementsAt (elementsOf (now (words .entry))) d ⌝ }
+{
+    if 64 <= d {
+        return 0;
+    }
+    words[584 + d]
+}
+
+pub(crate) fn elements_of(words: &[usize; WORDS], d: usize) -> usize
+    ensures { λ r. ⌜ r ≡ innerElements (elementsOf (now (words .entry))) d ⌝ }
+{
+    if d == 0 {
+        return 0;
+    }
+    elements_at(words, d - 1)
+}
+
+pub(crate) fn siblings_of(words: &[usize; WORDS], d: usize) -> usize
+    ensures { λ r. ⌜ r ≡ parentElements (elementsOf (now (words .entry))) d ⌝ }
+{
+    if d < 2 {
+        return 0;
+    }
+    elements_at(words, d - 2)
+}
+
+// Are at most 64 open, does no starting mark fall from one to the next, and does no list with a child open in it count too much?
 pub(crate) fn chain_of(words: &[usize; WORDS], d: usize) -> bool
-    ensures { λ r. ⌜ r ≡ chained (containersOf (now (words .entry))) d ⌝ }
+    ensures { λ r. ⌜ r ≡ chained (containersOf (now (words .entry))) (elementsOf (now (words .entry))) d ⌝ }
 {
     if 64 < d {
         return false;
@@ -198,11 +242,25 @@ pub(crate) fn chain_of(words: &[usize; WORDS], d: usize) -> bool
     let mut ok = true;
     let mut i = d - 1;
     while 0 < i {
-        let below = under(words, i);
+        let below = encloses(words, i);
         i -= 1;
         ok = ok & below;
     }
     ok
+}
+
+// The step from the container before depth i to the one there; one element above the data's bytes is that one.
+fn encloses(words: &[usize; WORDS], i: usize) -> bool
+    requires { ⌜ 0 < i ⌝ }
+    requires { ⌜ i < 64 ⌝ }
+    ensures { λ r. ⌜ r ≡ enclosesOf (containerAt (containersOf (now (words .entry))) (i - 1)) (elementsAt (elementsOf (now (words .entry))) (i - 1))
+        (containerAt (containersOf (now (words .entry))) i) ⌝ }
+{
+    let p = 8 + 9 * (i - 1);
+    let q = 8 + 9 * i;
+    let n = elements_at(words, i - 1);
+    let above = saturating_sub(n, saturating_sub(words[q], words[p]));
+    under(words, i) & (flag(words[p + 7]) | (above <= 1))
 }
 
 // Do the starting marks of the container before depth i lie at or below those of the one there?
@@ -218,7 +276,7 @@ fn under(words: &[usize; WORDS], i: usize) -> bool
             & ((words[p + 2] <= words[q + 2]) & (words[p + 3] <= words[q + 3])))
 }
 
-// A piece's counts put back where its number is 0, and its number.
+// A piece's counts and elements put back where its number is 0, and its number.
 pub(crate) fn moved(words: &mut [usize; WORDS], r: Moved) -> u8
     ensures { λ n. ⌜ Puts r n (now (words .entry)) (now (words .exit)) ⌝ }
 {
@@ -228,5 +286,6 @@ pub(crate) fn moved(words: &mut [usize; WORDS], r: Moved) -> u8
     }
     let c = r.counts;
     put_counts(words, c);
+    put_elements(words, c.depth, r.elements);
     0
 }

@@ -16,7 +16,7 @@ use Rattle.metadata.proofs.BytesLaws.{length-names}
 use Rattle.container.specs.declared.Search.{Search}
 use Rattle.container.specs.Entries.{Searches, seek}
 use Rattle.semantics.specs.declared.View.{View}
-use Rattle.semantics.specs.Record.{Storage, isOpen, innerSize, innerEntries, namesHeld}
+use Rattle.semantics.specs.Record.{Storage, isOpen, inObject, innerSize, innerEntries, namesHeld}
 use Rattle.semantics.specs.Damage.{fallenEnds, misplacedInner}
 use Rattle.semantics.specs.Table.{held, idOf}
 use Rattle.refusals.specs.declared.Field.{Field}
@@ -44,7 +44,7 @@ abbrev named : Bool → View → Known → Search → Named
 named into v k s =
     record {
       field = record { id = k .id; place = cond (liveBy into v k s) (s .place) 0; new = k .new; live = liveBy into v k s };
-      number = cond (eqb (k .number) 1 || ((into && isOpen v) && s .misplaced)) 1 (k .number);
+      number = cond (eqb (k .number) 1 || ((into && inObject v) && s .misplaced)) 1 (k .number);
     }
 
 not-zero : (b : Bool) (x : ℕ) → cond b 1 (suc x) ≡ 0 → ⊥
@@ -57,15 +57,15 @@ none-into false o = refl
 
 module _ (into : Bool) (v : View) (l : Storage) (n : Name) (k : Known) (s : Search) (unbroken : brokenOf v l ≡ false)
     (e : toldBy k ≡ lookup (v .counts .dictionary) (l .text) (l .ends) n)
-    (q : Searches (l .entries) (v .inner .entries) (v .counts .entries) (v .inner .object) (fieldNames (v .counts .dictionary)) (innerSize v) (k .id) s) where
-  any : (isOpen v && s .misplaced) ≡ misplacedInner v l
+    (q : Searches (l .entries) (v .inner .entries) (v .counts .entries) true (fieldNames (v .counts .dictionary)) (innerSize v) (k .id) s) where
+  any : (inObject v && s .misplaced) ≡ misplacedInner v l
   unfolding misplacedInner
   any = rw (q .misplacedAny, range-within (l .entries) (v .inner .entries) (v .counts .entries) (entries-within v l unbroken))
 
-  any-into : ((into && isOpen v) && s .misplaced) ≡ (into && misplacedInner v l)
+  any-into : ((into && inObject v) && s .misplaced) ≡ (into && misplacedInner v l)
   any-into = go into
     where
-      go : (i : Bool) → ((i && isOpen v) && s .misplaced) ≡ (i && misplacedInner v l)
+      go : (i : Bool) → ((i && inObject v) && s .misplaced) ≡ (i && misplacedInner v l)
       go true = any
       go false = refl
 
@@ -105,7 +105,7 @@ module _ (into : Bool) (v : View) (l : Storage) (n : Name) (k : Known) (s : Sear
           told-cases : (b c d : Bool) → intact (v .counts .dictionary) (l .text) (l .ends) ≡ true → utf8 n ≡ b → held v l n ≡ c → hasRoom (v .counts .dictionary) (l .text) (l .ends) n ≡ d → fallenEnds v l ≡ false → Sees into v l (some n) (named into v k s)
           told-cases false c d i u h r f =
               let nu : k .number ≡ 9 = ap (λ (x : Told). x .number) (rw (i, u) at e) in
-              record { number = rw (nu, f, u, any-into); live = λ p q. absurd (true≢false (rw u at q)); field = λ p. absurd (not-zero ((into && isOpen v) && s .misplaced) 8 (rw nu at p)) }
+              record { number = rw (nu, f, u, any-into); live = λ p q. absurd (true≢false (rw u at q)); field = λ p. absurd (not-zero ((into && inObject v) && s .misplaced) 8 (rw nu at p)) }
           told-cases true true d i u h r f =
               let z = rw (i, u, h) at e in
               let nu : k .number ≡ 0 = ap (λ (x : Told). x .number) z in
@@ -120,7 +120,7 @@ module _ (into : Bool) (v : View) (l : Storage) (n : Name) (k : Known) (s : Sear
               record { number = rw (nu, f, u, h, r, any-into); live = λ p p′. rw (nu, ne, h) (none-into into (isOpen v)); field = λ p. rw (nu, ne, h, none-into into (isOpen v), and-false (isOpen v), and-false into, id) }
           told-cases true false false i u h r f =
               let nu : k .number ≡ 12 = ap (λ (x : Told). x .number) (rw (i, u, h, r) at e) in
-              record { number = rw (nu, f, u, h, r, any-into); live = λ p p′. rw (nu, h) (none-into into (isOpen v)); field = λ p. absurd (not-zero ((into && isOpen v) && s .misplaced) 11 (rw nu at p)) }
+              record { number = rw (nu, f, u, h, r, any-into); live = λ p p′. rw (nu, h) (none-into into (isOpen v)); field = λ p. absurd (not-zero ((into && inObject v) && s .misplaced) 11 (rw nu at p)) }
 
 -- ---- as the code has it
 
@@ -130,15 +130,15 @@ unfolding nameOf
 sees-unnamed {into} {v} {l} named name e q = rw (not-true named e, q) (sees-none into v l)
 
 -- one with a name: its look-up, then the pass over the innermost entries
-pub sees-named : {into : Bool} {v : View} {l : Storage} (named : Bool) (name : Name) {any : Bool} {k : Known} {s : Search} {size p n : ℕ} → not named ≡ false → brokenOf v l ≡ false
+pub sees-named : {into : Bool} {v : View} {l : Storage} (named : Bool) (name : Name) {any object : Bool} {k : Known} {s : Search} {size p n : ℕ} → not named ≡ false → brokenOf v l ≡ false
     → toldBy k ≡ lookup (v .counts .dictionary) (l .text) (l .ends) name → size ≡ innerSize v
-    → Searches (l .entries) (v .inner .entries) (v .counts .entries) (v .inner .object) (fieldNames (v .counts .dictionary)) size (k .id) s → any ≡ isOpen v
+    → Searches (l .entries) (v .inner .entries) (v .counts .entries) true (fieldNames (v .counts .dictionary)) size (k .id) s → any ≡ isOpen v → object ≡ inObject v
     → p ≡ cond ((into && any) && ((eqb (k .number) 0 && not (k .new)) && ltb (s .place) (v .counts .entries))) (s .place) 0
-    → n ≡ cond (eqb (k .number) 1 || ((into && any) && s .misplaced)) 1 (k .number)
+    → n ≡ cond (eqb (k .number) 1 || ((into && object) && s .misplaced)) 1 (k .number)
     → Sees into v l (nameOf named name)
     (record {
       field = record { id = k .id; place = p; new = k .new; live = (into && any) && ((eqb (k .number) 0 && not (k .new)) && ltb (s .place) (v .counts .entries)) };
       number = n;
     })
 unfolding nameOf
-sees-named {into} {v} {l} named name {k = k} {s = s} e b t z q o p n = rw (not-false named e, p, n, o) (sees-name into v l name k s b t (rw z at q))
+sees-named {into} {v} {l} named name {k = k} {s = s} e b t z q o j p n = rw (not-false named e, p, n, o, j) (sees-name into v l name k s b t (rw z at q))

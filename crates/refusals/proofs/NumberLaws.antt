@@ -10,30 +10,47 @@ use Rattle.encoding.specs.Rows.{first}
 use Rattle.metadata.specs.Names.{intact, place, fieldNames}
 use Rattle.container.specs.declared.Search.{Search}
 use Rattle.container.specs.Entries.{Searches, roomFor}
+use Rattle.measure.specs.Measure.{wholeValues}
 use Rattle.semantics.specs.declared.ParentEntry.the-variants.{New, Replaced}
 use Rattle.semantics.specs.declared.View.{View}
-use Rattle.semantics.specs.Record.{Storage, close, rollBack, uniqueness, isOpen, inObject, innerSize, parentSize}
-use Rattle.semantics.specs.Damage.{badFloor, fallenEnds, misplacedInner, misplacedParent, damagedParent}
+use Rattle.semantics.specs.Record.{Storage, close, rollBack, uniqueness, isOpen, inObject, inList, innerSize, innerData, parentSize}
+use Rattle.semantics.specs.Damage.{badFloor, fallenEnds, misplacedInner, misplacedParent, uncounted, damagedParent, misread}
 use Rattle.semantics.specs.Table.{rows, numberOf}
 use Rattle.refusals.specs.declared.numbers.Parent.{Parent}
-use Rattle.refusals.specs.Decide.{ClosesBy, ParentOf, Undoes, brokenOf, finishBy}
+use Rattle.refusals.specs.Decide.{ClosesBy, ParentOf, Undoes, brokenOf, closeBy, finishBy}
 use Rattle.refusals.proofs.ViewLaws.{both}
 pub use Rattle.refusals.proofs.ViewLaws.{broken-number, broken-close, damaged-none, entries-within, inner-within, ends-read, range-within, found-before, none-before}
 
 -- ---- a roll back's parent
 module _ (v : View) (l : Storage) (h : v .inner .entries ≤ roomFor (length (l .entries))) (s : Search) where
-  -- of a new child: the parent has an entry
-  pub parent-new : v .inner .parent ≡ New → Searches (l .entries) (v .parent .entries) (v .inner .entries) (v .parent .object) (fieldNames (v .counts .dictionary)) (parentSize v) 0 s
-      → ParentOf v l (record { place = 0; damaged = s .misplaced || not (ltb (v .parent .entries) (v .inner .entries)) })
+  -- of a new child: an object has an entry, a list an element
+  pub parent-new : v .inner .parent ≡ New → Searches (l .entries) (v .parent .entries) (v .inner .entries) true (fieldNames (v .counts .dictionary)) (parentSize v) 0 s
+      → ParentOf v l
+      (record {
+        place = 0;
+        damaged = (v .parent .object && (s .misplaced || not (ltb (v .parent .entries) (v .inner .entries)))) || (not (v .parent .object) && eqb (v .siblings) 0);
+      })
   unfolding misplacedParent
-  parent-new e q = record { damaged = rw (e, q .misplacedAny, range-within _ _ _ h, none-before (l .entries) (v .parent .entries) (v .inner .entries)); place = rw e }
+  parent-new e q = record { damaged = rw (e, q .misplacedAny, range-within _ _ _ h, none-before (l .entries) (v .parent .entries) (v .inner .entries)) (go (v .parent .object) _ _ _); place = rw e }
+    where
+      go : (o m : Bool) (n k : ℕ) → ((o && (m || eqb n 0)) || (not o && eqb k 0)) ≡ ((o && m) || eqb (cond o n k) 0)
+      go true m n k = or-false (m || eqb n 0)
+      go false m n k = refl
 
-  -- of a child that replaced another: the parent has an entry of its id, and enough data
+  -- of a child that replaced another: the parent is an object, has an entry of its id, and enough data
   pub parent-replaced : (id offset : ℕ) → v .inner .parent ≡ Replaced id offset
-      → Searches (l .entries) (v .parent .entries) (v .inner .entries) (v .parent .object) (fieldNames (v .counts .dictionary)) (parentSize v) id s
-      → ParentOf v l (record { place = s .place; damaged = s .misplaced || (not (v .parent .object) || (not (ltb (s .place) (v .inner .entries)) || ltb (parentSize v) offset)) })
+      → Searches (l .entries) (v .parent .entries) (v .inner .entries) true (fieldNames (v .counts .dictionary)) (parentSize v) id s
+      → ParentOf v l (record { place = s .place; damaged = not (v .parent .object) || (s .misplaced || (not (ltb (s .place) (v .inner .entries)) || ltb (parentSize v) offset)) })
   unfolding misplacedParent
-  parent-replaced id offset e q = record { damaged = rw (e, q .misplacedAny, q .placeFirst, range-within _ _ _ h, found-before (l .entries) (v .parent .entries) (v .inner .entries) id); place = rw (e, q .placeFirst, range-within _ _ _ h) }
+  parent-replaced id offset e q =
+      record {
+        damaged = rw (e, q .misplacedAny, q .placeFirst, range-within _ _ _ h, found-before (l .entries) (v .parent .entries) (v .inner .entries) id) (go (v .parent .object) _ _);
+        place = rw (e, q .placeFirst, range-within _ _ _ h);
+      }
+    where
+      go : (o m r : Bool) → (not o || (m || r)) ≡ ((o && m) || (not o || r))
+      go true m r = refl
+      go false m r = refl
 
 -- ---- the rows of a roll back, and its answer
 module _ (v : View) (l : Storage) (p : Parent) (n : ℕ) (unbroken : brokenOf v l ≡ false) (parent : ParentOf v l p)
@@ -52,17 +69,41 @@ module _ (v : View) (l : Storage) (p : Parent) (n : ℕ) (unbroken : brokenOf v 
 
 -- ---- the rows of a close
 
+-- a list's data walked where row 2 holds
+pub late-walked : (v : View) (l : Storage) {b w : Bool} → b ≡ inList v → (v .counts .finished && b) ≡ true → w ≡ wholeValues (v .elements) (innerData v l)
+    → not w ≡ (v .counts .finished && uncounted v l)
+unfolding uncounted
+late-walked v l i e w = let t = both (v .counts .finished) _ e in rw (t .0, sym i ∙ t .1, w)
+
+pub late-none : (v : View) (l : Storage) {b : Bool} → b ≡ inList v → (v .counts .finished && b) ≡ false → false ≡ (v .counts .finished && uncounted v l)
+unfolding uncounted
+late-none v l {b} i e = go (v .counts .finished) (rw (← i) e)
+  where
+    go : (f : Bool) → (f && inList v) ≡ false → false ≡ (f && (inList v && not (wholeValues (v .elements) (innerData v l))))
+    go true e = rw e
+    go false e = refl
+
 -- what the code answers after `broken`
 pub close-rows : (v : View) (l : Storage) (s : Search) → brokenOf v l ≡ false
-    → Searches (l .entries) (v .inner .entries) (v .counts .entries) (v .inner .object) (fieldNames (v .counts .dictionary)) (innerSize v) 0 s
-    → cond (not (intact (v .counts .dictionary) (l .text) (l .ends)) || (isOpen v && s .misplaced)) 1 (cond (v .counts .finished) 2 (cond (not (isOpen v)) 3 0))
-    ≡ first (take 3 (rows v l close))
-unfolding first misplacedInner
-close-rows v l s e q = rw (ends-read v l e, damaged-none v l (fallenEnds v l || misplacedInner v l) e, q .misplacedAny, range-within _ _ _ (entries-within v l e))
+    → Searches (l .entries) (v .inner .entries) (v .counts .entries) true (fieldNames (v .counts .dictionary)) (innerSize v) 0 s
+    → cond (not (intact (v .counts .dictionary) (l .text) (l .ends)) || ((inObject v && s .misplaced) || (v .counts .finished && uncounted v l))) 1
+    (cond (v .counts .finished) 2 (cond (not (isOpen v)) 3 0))
+    ≡ closeBy v l
+unfolding first misplacedInner uncounted
+close-rows v l s e q =
+    rw (ends-read v l e, damaged-none v l (misread v l close) e, damaged-none v l (fallenEnds v l || misplacedInner v l) e, q .misplacedAny, range-within _ _ _ (entries-within v l e))
+    (go (v .counts .finished) (isOpen v) (not (v .inner .object)) (fallenEnds v l) (misplacedInner v l) (not (wholeValues (v .elements) (innerData v l))))
+  where
+    go : (f o n a m w : Bool)
+        → _≡_ {A = ℕ} (cond (a || (m || (f && ((o && n) && w)))) 1 (cond f 2 (cond (not o) 3 0)))
+        (cond (eqb (cond f 2 (cond (not o) 3 0)) 0) (cond (a || m) 1 0) (cond (a || (m || ((o && n) && w))) 1 (cond f 2 (cond (not o) 3 0))))
+    go true o n a m w = refl
+    go false true n a m w = rw (or-false m)
+    go false false n a m w = refl
 
 -- its answer
 pub closes-by : (v : View) (l : Storage) (s : Search) {n : ℕ} → brokenOf v l ≡ false
-    → Searches (l .entries) (v .inner .entries) (v .counts .entries) (v .inner .object) (fieldNames (v .counts .dictionary)) (innerSize v) 0 s → n ≡ first (take 3 (rows v l close))
+    → Searches (l .entries) (v .inner .entries) (v .counts .entries) true (fieldNames (v .counts .dictionary)) (innerSize v) 0 s → n ≡ closeBy v l
     → ClosesBy v l (record { number = n; largest = s .largest })
 closes-by v l s e q n = record { number = n; largestId = rw e (rw (range-within _ _ _ (entries-within v l e)) at (q .largestId)) }
 

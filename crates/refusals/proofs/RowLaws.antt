@@ -20,7 +20,7 @@ use Rattle.refusals.specs.declared.Field.{Field}
 use Rattle.refusals.specs.declared.Decided.{Decided}
 use Rattle.refusals.specs.declared.lookup.Named.{Named}
 use Rattle.refusals.specs.Decide.{nameOf, liveInto, noField, Decides, brokenOf, misnamedBy, misreadInto, decidedOf, Sees, fullBy, rowsBy, enterBy, enterRows, lateRows}
-use Rattle.refusals.proofs.ViewLaws.{both, neither, past}
+use Rattle.refusals.proofs.ViewLaws.{both, neither, past, undamaged-unbroken}
 pub use Rattle.refusals.proofs.ViewLaws.{broken-none, damaged-broken}
 
 -- ---- no test holds
@@ -113,6 +113,11 @@ enter-late v l nm into opens own size e i =
     let d = past (into && misnamed nm v) 4 _ (b .1) in
     let k = first-none (behind 8 order) (lateRows v l nm into opens size) refl .0 (past-own own _ (past (into && secondTop v) 5 _ (d .1) .1)) in
     clear-at i (lateRows v l nm into opens size) k
+
+-- so is number 1
+pub enter-unbroken : (v : View) (l : Storage) (nm : Option Name) (into opens : Bool) (own size : ℕ) → first (enterRows v l nm into opens own size) ≡ 0 → brokenOf v l ≡ false
+unfolding first
+enter-unbroken v l nm into opens own size e = undamaged-unbroken v l _ (past (damaged v l (misreadInto into v l nm)) 0 _ e .0)
 
 -- number 0 leaves the scalar without a number of its own
 pub own-zero : (v : View) (l : Storage) (nm : Option Name) (into opens : Bool) (own size : ℕ) → first (enterRows v l nm into opens own size) ≡ 0 → own ≡ 0

@@ -7,18 +7,18 @@ use Prim.Native.Nat.{ℕ, suc, _+_, _-_, _≤_, min}
 use native.Mathlib.Omega.{arith}
 use lib.Dec.{eqb, leb, ltb}
 use lib.ListN.{drop, length, take}
-use borrow.Author.Tests.{ltb-true, ltb-false, lt-ltb, le-ltb, leb-true, eq-eqb, ne-eqb, not-false}
+use borrow.Author.Tests.{ltb-true, ltb-false, lt-ltb, le-ltb, leb-true, eq-eqb, ne-eqb, not-false, not-true}
 use Rattle.encoding.specs.Rows.{first}
 use Rattle.encoding.specs.Slices.{counted}
 use Rattle.metadata.specs.Names.{exceeds, intact, fieldNames, textSize}
 use Rattle.container.specs.Entries.{entriesOf, rangeOf, roomFor, seek}
 use Rattle.container.proofs.EntryLaws.{length-entries, seek-bound}
 use Rattle.semantics.specs.declared.View.{View}
-use Rattle.semantics.specs.Record.{Storage, Call, register, append, openIn, close, rollBack, uniqueness, finish}
-use Rattle.semantics.specs.Damage.{overUsed, grown, unchained, badFloor, fallenEnds, misread, damaged}
+use Rattle.semantics.specs.Record.{Storage, Call, register, append, openIn, close, rollBack, uniqueness, finish, countable, isOpen, inList, innerSize}
+use Rattle.semantics.specs.Damage.{overUsed, grown, unchained, badFloor, fallenEnds, misplacedInner, misread, damaged}
 use Rattle.semantics.specs.Table.{rows, numberOf}
 use Rattle.semantics.proofs.Demand1.{damaged-number}
-use Rattle.refusals.specs.Decide.{brokenOf, finishBy}
+use Rattle.refusals.specs.Decide.{brokenOf, closeBy, finishBy}
 
 -- neither test of an `||` that does not hold does
 pub neither : (t u : Bool) → (t || u) ≡ false → (t ≡ false) × (u ≡ false)
@@ -51,19 +51,19 @@ damaged-broken v l m e = go (overUsed v l) (unchained v) (badFloor v) e
 pub broken-number : (v : View) (l : Storage) (c : Call) → brokenOf v l ≡ true → numberOf v l c ≡ 1
 broken-number v l c e = damaged-number v l c (damaged-broken v l (misread v l c) e)
 
--- as has a close by its first three rows
-pub broken-close : (v : View) (l : Storage) → brokenOf v l ≡ true → first (take 3 (rows v l close)) ≡ 1
-unfolding first
-broken-close v l e = rw (damaged-broken v l _ e)
+one : (t : Bool) → _≡_ {A = ℕ} (cond t 1 1) 1
+one true = refl
+one false = refl
 
--- and a finish
+-- as have a close and a finish
+pub broken-close : (v : View) (l : Storage) → brokenOf v l ≡ true → closeBy v l ≡ 1
+unfolding first
+broken-close v l e =
+    rw (damaged-broken v l (misread v l close) e, damaged-broken v l (fallenEnds v l || misplacedInner v l) e) (one (eqb (first (drop 1 (take 3 (rows v l close)))) 0))
+
 pub broken-finish : (v : View) (l : Storage) (out : List ℕ) → brokenOf v l ≡ true → finishBy v l out ≡ 1
 unfolding first
 broken-finish v l out e = rw (damaged-broken v l (fallenEnds v l) e, e) (one (eqb (first (drop 1 (take 4 (rows v l (finish out))))) 0))
-  where
-    one : (t : Bool) → _≡_ {A = ℕ} (cond t 1 1) 1
-    one true = refl
-    one false = refl
 
 -- ---- where it does not
 
@@ -73,6 +73,13 @@ broken-none v l e =
     let a = neither (overUsed v l) (unchained v || badFloor v) e in
     let b = neither (unchained v) (badFloor v) (a .1) in
     (a .0, b .0, b .1)
+
+-- nor do they where number 1 does not
+pub undamaged-unbroken : (v : View) (l : Storage) (x : Bool) → damaged v l x ≡ false → brokenOf v l ≡ false
+undamaged-unbroken v l x e =
+    let a = neither (overUsed v l) _ e in
+    let b = neither (unchained v) (badFloor v || x) (a .1) in
+    rw (a .0, b .0, neither (badFloor v) x (b .1) .0)
 
 -- the call's own part is number 1
 pub damaged-none : (v : View) (l : Storage) (x : Bool) → brokenOf v l ≡ false → damaged v l x ≡ x
@@ -98,16 +105,35 @@ within v l e =
 pub entries-within : (v : View) (l : Storage) → brokenOf v l ≡ false → v .counts .entries ≤ roomFor (length (l .entries))
 entries-within v l e = within v l e .entries
 
--- so does the innermost's start
-pub inner-within : (v : View) (l : Storage) → brokenOf v l ≡ false → v .inner .entries ≤ roomFor (length (l .entries))
+-- the innermost's starting marks lie within the used counts, and a list has few elements
+pub record Grown (v : View) : Type 0 where
+  pub value : leb (v .inner .value) (v .counts .value) ≡ true
+  pub entries : leb (v .inner .entries) (v .counts .entries) ≡ true
+  pub elements : countable (v .inner) (v .elements) (innerSize v) ≡ true
+
+pub grown-within : (v : View) (l : Storage) → brokenOf v l ≡ false → Grown v
 unfolding unchained
-inner-within v l e =
+grown-within v l e =
     let g = both (v .chain) (grown v) (not-false _ (broken-none v l e .1)) .1 in
-    let k = both (leb (v .inner .value) (v .counts .value)) _ g .1 in
-    let n = both (leb (v .inner .names) (fieldNames (v .counts .dictionary))) _ k .1 in
-    let t = both (leb (v .inner .text) (textSize (v .counts .dictionary))) (leb (v .inner .entries) (v .counts .entries)) n .1 in
-    let w = within v l e in
-    omega (arith, leb-true)
+    let k = both (leb (v .inner .value) (v .counts .value)) _ g in
+    let n = both (leb (v .inner .names) (fieldNames (v .counts .dictionary))) _ (k .1) .1 in
+    let t = both (leb (v .inner .text) (textSize (v .counts .dictionary))) _ n .1 in
+    let i = both (leb (v .inner .entries) (v .counts .entries)) _ t in
+    record { value = k .0; entries = i .0; elements = i .1 }
+
+-- the innermost's entries start within the lent numbers
+pub inner-within : (v : View) (l : Storage) → brokenOf v l ≡ false → v .inner .entries ≤ roomFor (length (l .entries))
+inner-within v l e =
+    let h = leb-true (v .inner .entries) (v .counts .entries) (grown-within v l e .entries) in
+    let w = entries-within v l e in
+    omega arith
+
+-- a list has no more elements than there are value bytes
+pub few-elements : (v : View) (l : Storage) → brokenOf v l ≡ false → inList v ≡ true → v .elements ≤ v .counts .value
+few-elements v l e i =
+    let o = not-true (v .inner .object) (both (isOpen v) (not (v .inner .object)) i .1) in
+    let h = leb-true (v .elements) (innerSize v) (rw o at (grown-within v l e .elements)) in
+    omega arith
 
 -- what the dictionary asks of the name ends is what the rows ask
 pub ends-read : (v : View) (l : Storage) → brokenOf v l ≡ false → not (intact (v .counts .dictionary) (l .text) (l .ends)) ≡ fallenEnds v l

@@ -14,7 +14,7 @@ use Rattle.container.specs.Entries.{idsOf, roomFor, seek}
 use Rattle.semantics.specs.declared.ParentEntry.{ParentEntry}
 use Rattle.semantics.specs.declared.ParentEntry.the-variants.{New, Replaced}
 use Rattle.semantics.specs.declared.View.{View}
-use Rattle.semantics.specs.Record.{Storage, close, finish, isOpen, inObject, innerEntries, parentSize, parentEntries, uniqueNow}
+use Rattle.semantics.specs.Record.{Storage, close, finish, inObject, innerEntries, parentSize, parentEntries, uniqueNow}
 use Rattle.semantics.specs.Damage.{damaged, fallenEnds, misplacedInner, overUsed, unchained, badFloor, misplacedParent, orphaned}
 use Rattle.semantics.specs.Table.{rows, held, liveUnder, badName, misnamed, namesFull, secondTop, tooLong}
 use Rattle.semantics.specs.Step.{idFor, placeFor}
@@ -65,9 +65,16 @@ pub record Undoes (n : ℕ) (v : View) (l : Storage) (r : Undone) : Type 0 where
 abbrev pub brokenOf : View → Storage → Bool
 brokenOf v l = overUsed v l || (unchained v || badFloor v)
 
--- a close's by rows 1 to 3, and the largest id of the innermost's entries
+-- a close's, by rows 1 to 3; where neither 2 nor 3 holds it is number 1 only by what is asked besides the walk of a list's data, which closing
+-- the list walks itself before anything is written
+abbrev pub closeBy : View → Storage → ℕ
+closeBy v l =
+    let three = take 3 (rows v l close) in
+    cond (eqb (first (drop 1 three)) 0) (cond (damaged v l (fallenEnds v l || misplacedInner v l)) 1 0) (first three)
+
+-- and the largest id of the innermost's entries
 pub record ClosesBy (v : View) (l : Storage) (r : Closing) : Type 0 where
-  pub number : r .number ≡ first (take 3 (rows v l close))
+  pub number : r .number ≡ closeBy v l
   pub largestId : r .largest ≡ cond (brokenOf v l) 0 (largest (idsOf (innerEntries v l)))
 
 -- a finish's, by rows 1, 2, 4 and 15; where none of 2, 4 and 15 holds it is number 1 only by what every call asks: the
@@ -87,7 +94,7 @@ toldBy k = record { number = k .number; id = k .id; new = k .new }
 
 -- 13, from whether the name is live
 abbrev pub fullBy : Bool → View → Bool → ℕ → Bool
-fullBy into v live lent = ((into && isOpen v) && not live) && leb (roomFor lent) (v .counts .entries)
+fullBy into v live lent = ((into && inObject v) && not live) && leb (roomFor lent) (v .counts .entries)
 
 -- the rows of a name, an entry and room, from 9 on
 abbrev pub lateRows : View → Storage → Option Name → Bool → Bool → ℕ → List Row
@@ -119,7 +126,7 @@ abbrev pub decidedOf : ℕ → Field → Decided
 decidedOf n g = cond (eqb n 0) (record { field = g; number = 0 }) (record { field = noField; number = n })
 
 pub record ParentOf (v : View) (l : Storage) (r : Parent) : Type 0 where
-  pub damaged : r .damaged ≡ (misplacedParent v l || orphaned (v .inner .parent) (v .parent .object) (parentSize v) (parentEntries v l))
+  pub damaged : r .damaged ≡ (misplacedParent v l || orphaned (v .inner .parent) (v .parent .object) (v .siblings) (parentSize v) (parentEntries v l))
   pub place : r .place ≡ placeBack v l (v .inner .parent)
 
 -- those rows, from what is known of the name

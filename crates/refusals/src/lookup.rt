@@ -1,5 +1,6 @@
 // A name given to a call: looked up among the names, then among the innermost container's entries, in one pass each.
 use crate::Field;
+use crate::view::in_object;
 use crate::view::is_open;
 use crate::view::saturating_sub;
 use container::search_entries;
@@ -69,7 +70,7 @@ fn refused(number: u8) -> Known
     }
 }
 
-// What the pass over the entries finds counts where a value is entered (`into`), and not for a register.
+// What the pass over the entries finds counts where a value is entered (`into`), and not for a register; that one is misplaced, in an object.
 pub(crate) fn field_of(
     v: View,
     value: &[u8],
@@ -96,9 +97,8 @@ pub(crate) fn field_of(
     let n = look_up(m, text, ends, name);
     let names = num_field_names(m);
     let size = saturating_sub(c.value, k.value);
-    let s = search_entries(entries, k.entries, c.entries, k.object, names, size, n.id);
-    let inside = into & is_open(v);
-    let live = inside & (((n.number == 0) & !n.new) & (s.place < c.entries));
+    let s = search_entries(entries, k.entries, c.entries, true, names, size, n.id);
+    let live = (into & is_open(v)) & (((n.number == 0) & !n.new) & (s.place < c.entries));
     Named {
         field: Field {
             id: n.id,
@@ -106,7 +106,10 @@ pub(crate) fn field_of(
             new: n.new,
             live: live,
         },
-        number: one_if((n.number == 1) | (inside & s.misplaced), n.number),
+        number: one_if(
+            (n.number == 1) | ((into & in_object(v)) & s.misplaced),
+            n.number,
+        ),
     }
 }
 

@@ -7,6 +7,7 @@ use crate::lookup::Named;
 use crate::lookup::field_of;
 use crate::lookup::no_field;
 use crate::view::broken;
+use crate::view::in_list;
 use crate::view::in_object;
 use crate::view::is_open;
 use crate::view::misnamed;
@@ -16,19 +17,21 @@ use crate::view::second_top;
 use crate::view::unique_now;
 use container::search_entries;
 use encoding::slices::fits;
+use measure::whole_values;
 use metadata::intact;
 use metadata::num_field_names;
 use semantics::ParentEntry;
 use semantics::View;
 use semantics::good_floor;
 ghost use mathlib.Core.Path.{_≡_};
-ghost use mathlib.Core.Bool.{Bool};
+ghost use mathlib.Core.Bool.{Bool, _&&_};
 ghost use mathlib.Core.List.{List};
 ghost use Prim.Native.Nat.{ℕ, _≤_};
 ghost use lib.ListN.{length};
 ghost use Rattle.encoding.specs.Rows.{first};
 ghost use Rattle.container.specs.Entries.{roomFor};
 ghost use Rattle.semantics.specs.Record.{rollBack, uniqueness, storageOf};
+ghost use Rattle.semantics.specs.Damage.{uncounted};
 ghost use Rattle.semantics.specs.Table.{makeRows, numberOf};
 ghost use Rattle.refusals.specs.Decide.{ClosesBy, Decides, ParentOf, enterBy, enterRows, finishBy, fullBy, rowsBy, Undoes, decidedOf, nameOf};
 
@@ -131,7 +134,8 @@ fn rows(
     )
 }
 
-// Rows 1 to 3 of a close; row 14 is the header's own. The pass over the innermost entries gives their largest id too.
+// Rows 1 to 3 of a close; row 14 is the header's own. A list's data is walked only where row 2 holds: else closing it walks it, before
+// anything is written. The pass over the innermost entries gives their largest id too.
 pub fn close_number(
     v: View,
     value: &[u8],
@@ -152,14 +156,24 @@ pub fn close_number(
     let m = c.dictionary;
     let names = num_field_names(m);
     let size = saturating_sub(c.value, k.value);
-    let s = search_entries(entries, k.entries, c.entries, k.object, names, size, 0);
-    let open = is_open(v);
-    let misread = !intact(m, text, ends) | (open & s.misplaced);
-    let n = row(misread, 1, row(c.finished, 2, row(!open, 3, 0)));
+    let s = search_entries(entries, k.entries, c.entries, true, names, size, 0);
+    let unfit = (in_object(v) & s.misplaced) | late_uncounted(v, value);
+    let misread = !intact(m, text, ends) | unfit;
+    let n = row(misread, 1, row(c.finished, 2, row(!is_open(v), 3, 0)));
     Closing {
         number: n,
         largest: s.largest,
     }
+}
+
+// Where row 2 holds: is the data of the innermost list not as many whole values as it counts?
+fn late_uncounted(v: View, value: &[u8]) -> bool
+    ensures { λ r. ⌜ ((text ends entries : List ℕ) → r ≡ (v .counts .finished && uncounted v (storageOf (now (value .entry)) text ends entries))) ⌝ }
+{
+    if v.counts.finished & in_list(v) {
+        return !whole_values(value, v.inner.value, v.counts.value, v.elements);
+    }
+    false
 }
 
 // Rows 1, 2, 4 and 15 of a finish. The name ends are asked only where 2, 4 or 15 holds: else the dictionary asks them as it is
@@ -247,14 +261,15 @@ fn decided(n: u8, g: Field) -> Decided
     }
 }
 
-// Row 13, of a name that is live or not.
+// Row 13, of a name that is live or not: a list takes no entries.
 fn entries_full(v: View, into: bool, live: bool, entries: &[usize]) -> bool
     ensures { λ r. ⌜ r ≡ fullBy into v live (length (now (entries .entry))) ⌝ }
 {
-    ((into & is_open(v)) & !live) & (entries.len() / 2 <= v.counts.entries)
+    ((into & in_object(v)) & !live) & (entries.len() / 2 <= v.counts.entries)
 }
 
-// For a child that is not at the top level: is its parent damaged for it, and where is the parent's entry of its id.
+// For a child that is not at the top level: is its parent damaged for it, and where is the parent's entry of its id. A list has no
+// entries, but elements, the child among them.
 struct Parent {
     place: usize,
     damaged: bool,
@@ -272,17 +287,18 @@ fn parent_entry(v: View, entries: &[usize]) -> Parent
     let size = saturating_sub(k.value, p.value);
     match entry {
         ParentEntry::New => {
-            let s = search_entries(entries, p.entries, k.entries, p.object, names, size, 0);
+            let s = search_entries(entries, p.entries, k.entries, true, names, size, 0);
+            let none = s.misplaced | !(p.entries < k.entries);
             Parent {
                 place: 0,
-                damaged: s.misplaced | !(p.entries < k.entries),
+                damaged: (p.object & none) | (!p.object & (v.siblings == 0)),
             }
         }
         ParentEntry::Replaced { id, offset } => {
-            let s = search_entries(entries, p.entries, k.entries, p.object, names, size, id);
+            let s = search_entries(entries, p.entries, k.entries, true, names, size, id);
             Parent {
                 place: s.place,
-                damaged: s.misplaced | (!p.object | (!(s.place < k.entries) | (size < offset))),
+                damaged: !p.object | (s.misplaced | (!(s.place < k.entries) | (size < offset))),
             }
         }
     }

@@ -8,7 +8,7 @@ use semantics::good_floor;
 ghost use mathlib.Core.Path.{_≡_};
 ghost use mathlib.Core.Bool.{cond};
 ghost use Prim.Native.Nat.{_-_};
-ghost use Rattle.semantics.specs.Record.{inObject, isOpen, uniqueNow, storageOf};
+ghost use Rattle.semantics.specs.Record.{inList, inObject, isOpen, uniqueNow, storageOf};
 ghost use Rattle.semantics.specs.Damage.{grown as grownOf};
 ghost use Rattle.semantics.specs.Table.{secondTop};
 ghost use Rattle.refusals.specs.Decide.{brokenOf, misnamedBy};
@@ -43,7 +43,7 @@ pub(crate) fn broken(v: View, value: &[u8], text: &[u8], ends: &[usize], entries
         | (!(v.chain & grown(v)) | !good_floor(c.floor))
 }
 
-// Do the innermost's starting marks lie within the used counts?
+// Do the innermost's starting marks lie within the used counts, and does a list count no more elements than its data has bytes?
 fn grown(v: View) -> bool
     ensures { λ r. ⌜ r ≡ grownOf v ⌝ }
 {
@@ -52,7 +52,9 @@ fn grown(v: View) -> bool
     let m = c.dictionary;
     let names = num_field_names(m);
     let text = metadata_size(m);
-    (k.value <= c.value) & ((k.names <= names) & ((k.text <= text) & (k.entries <= c.entries)))
+    let few = k.object | (v.elements <= saturating_sub(c.value, k.value));
+    (k.value <= c.value)
+        & ((k.names <= names) & ((k.text <= text) & ((k.entries <= c.entries) & few)))
 }
 
 pub(crate) fn is_open(v: View) -> bool
@@ -65,6 +67,12 @@ pub(crate) fn in_object(v: View) -> bool
     ensures { λ r. ⌜ r ≡ inObject v ⌝ }
 {
     is_open(v) & v.inner.object
+}
+
+pub(crate) fn in_list(v: View) -> bool
+    ensures { λ r. ⌜ r ≡ inList v ⌝ }
+{
+    is_open(v) & !v.inner.object
 }
 
 // Row 5.

@@ -13,8 +13,9 @@ use borrow.Author.Tests.{ltb-true, ltb-false}
 use Rattle.value.specs.declared.decoder.VariantPrimitiveType.the-variants as type
 use Rattle.value.specs.declared.variant.VariantBytes.{VariantBytes}
 use Rattle.value.specs.declared.variant.VariantBytes.the-variants.{Binary, String, ShortString, Text}
-use Rattle.value.specs.Scalar.{short, scalarBytes, long, plain, storedBytes, Whole}
+use Rattle.value.specs.Scalar.{short, scalarBytes, long, plain, storedBytes}
 use Rattle.value.proofs.ScalarParse.{stored-whole, uuid-whole, bytes-whole}
+use Rattle.measure.proofs.ValueLaws.{Plain, stored-known, bytes-known, uuid-known}
 use Rattle.calendar.specs.Answers.{civilVariant}
 use Rattle.packed_decimal.specs.PackedDecimal.{packedVariant}
 use Rattle.metadata.specs.Names.{Name, same, place}
@@ -414,10 +415,10 @@ abbrev pub innerObject : List Level → Bool
 innerObject [] = false
 innerObject (l ∷ ls) = l .object
 
--- a name is given exactly in an object, and a scalar is whole
+-- a name is given exactly in an object, and a scalar is whole and of a known type
 abbrev pub Suits : History → Call → Type 0
 Suits h (register n) = Unit {0}
-Suits h (append nm v) = Named (innerObject (h .levels)) nm × Whole (scalarOf v)
+Suits h (append nm v) = Named (innerObject (h .levels)) nm × Plain (scalarOf v)
 Suits h (openIn nm k) = Named (innerObject (h .levels)) nm
 Suits h close = Unit {0}
 Suits h rollBack = Unit {0}
@@ -447,17 +448,17 @@ length-bytes String bs = simp length-append (omega arith)
 length-bytes ShortString bs = length-plain bs
 length-bytes Text bs = length-plain bs
 
--- a scalar that fits is whole
-pub scalar-whole : (v : Scalars) → length (scalarBytes (scalarOf v)) < 256 ^ 4 → Whole (scalarOf v)
+-- a scalar that fits is so
+pub scalar-plain : (v : Scalars) → length (scalarBytes (scalarOf v)) < 256 ^ 4 → Plain (scalarOf v)
 unfolding scalarBytes
-scalar-whole (fixed v) h = stored-whole v
-scalar-whole (civil x) h = stored-whole (civilVariant x)
-scalar-whole (packed scale bs) h = stored-whole (packedVariant bs scale)
-scalar-whole (bytes k bs) h = bytes-whole k bs (omega (arith, length-bytes k bs))
-scalar-whole (uuid bs) h =
+scalar-plain (fixed v) h = record { whole = stored-whole v; known = stored-known v }
+scalar-plain (civil x) h = record { whole = stored-whole (civilVariant x); known = stored-known (civilVariant x) }
+scalar-plain (packed scale bs) h = record { whole = stored-whole (packedVariant bs scale); known = stored-known (packedVariant bs scale) }
+scalar-plain (bytes k bs) h = record { whole = bytes-whole k bs (omega (arith, length-bytes k bs)); known = bytes-known k bs }
+scalar-plain (uuid bs) h =
     let n = length-append bs (replicate 16 0) in
     let m = length-replicate {A = ℕ} 16 0 in
-    uuid-whole (sixteen bs) (simp length-take (omega arith))
+    record { whole = uuid-whole (sixteen bs) (simp length-take (omega arith)); known = uuid-known (sixteen bs) }
 
 abbrev pub FormedTop : Option Tree → Type 0
 FormedTop none = Unit {0}

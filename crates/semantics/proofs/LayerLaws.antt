@@ -1,17 +1,16 @@
--- One open container: its entries and data in the machine beside its items in the history.
+-- One open container: its entries, elements and data in the machine beside its items in the history.
 use mathlib.Core.Path.{_≡_, refl, sym, _∙_, ap, subst}
 use mathlib.Core.Logic.{_⊎_, inl, inr, _≢_}
 use mathlib.Core.Bool.{Bool, true, false, cond, _&&_, _||_, true≢false}
 use mathlib.Core.List.{List, [], _∷_, _++_, append-assoc, append-nil}
 use mathlib.Core.Option.{Option, none, some}
-use Prim.Native.Nat.{ℕ, suc, _+_, _-_, _≤_, _<_}
+use Prim.Native.Nat.{ℕ, zero, suc, _+_, _-_, _^_, _≤_, _<_}
 use native.Mathlib.Nat.{add-zero, zero-add}
 use native.Mathlib.Omega.{arith}
 use lib.Dec.{eqb, leb, ltb, leb·suc-suc}
 use lib.Seq.{take-at, drop-at}
 use lib.ListN.{drop, take, length, length-append, length-map}
 use borrow.Author.Tests.{eq-eqb, ne-eqb, eqb-true, eqb-false, ltb-true, ltb-false, leb-false, le-ltb, lt-leb, lt-ltb}
-use Rattle.encoding.proofs.PackedLaws.{Below}
 use Rattle.metadata.specs.Names.{Name, same, place}
 use Rattle.metadata.proofs.DictionaryLaws.{same-equal, same-differs}
 use Rattle.metadata.proofs.DictionaryLaws as dictionary
@@ -19,14 +18,17 @@ use Rattle.container.specs.declared.Entry.{Entry}
 use Rattle.container.specs.Entries.{idsOf, offsetsOf, misplaced, seek}
 use Rattle.container.specs.Layout.{largest, listHeader, objectHeader, listHeaderSize, objectHeaderSize}
 use Rattle.container.specs.Sort.{sort}
-use Rattle.container.proofs.SortLaws.{Mem, Incl, Pairwise, Distinct, sort-unique, length-sort, largest-sort, length-list-entries, length-object-entries}
+use Rattle.container.proofs.LayoutLaws.{length-list}
+use Rattle.container.proofs.SortLaws.{Mem, Incl, Pairwise, Distinct, sort-unique, length-sort, largest-sort, length-object-entries}
+use Rattle.measure.specs.Measure.{measured, startsIn, wholeValues}
 use Rattle.semantics.specs.declared.ParentEntry.{ParentEntry}
 use Rattle.semantics.specs.declared.ParentEntry.the-variants.{New, Replaced}
 use Rattle.semantics.specs.Damage.{orphaned}
 use Rattle.semantics.specs.Tree.{Mark, element, live, replaced, Tree, nest, Items, empty, item, dataOf, startsFrom, withField, fieldsFrom, listBytes, objectBytes, encode, partsOf}
 use Rattle.semantics.specs.History.{unlive, replace, snoc, entered}
 use Rattle.semantics.specs.Ledger.{itemCount, liveIds, isLive, ownEntry}
-use Rattle.semantics.proofs.TreeLaws.{HeldMark, HeldItems, ApartItems, starts-bounded, fields-placed, fields-apart, place-inj, parts-grow, fields-grow}
+use Rattle.semantics.proofs.TreeLaws.{FormedItems, HeldMark, HeldItems, ApartItems, fields-placed, fields-apart, place-inj, parts-grow, fields-grow}
+use Rattle.semantics.proofs.TreeValues.{items-low, items-whole, items-starts}
 use Rattle.semantics.proofs.HistoryLaws.{Extends, HeldName, Named}
 use Rattle.semantics.proofs.Machine.{put, find, noteIn, linkIn, headerOf}
 
@@ -95,46 +97,42 @@ mem-has i es x = put-cases (λ es fs p t. Mem x es → x .id ≡ i → t ≡ tru
 
 -- ---- entries that are well placed
 
--- an offset within the data and, in an object, an id that is held
-pub record Placed (object : Bool) (names size : ℕ) (e : Entry) : Type 0 where
+-- an offset within the data, and an id that is held
+pub record Placed (names size : ℕ) (e : Entry) : Type 0 where
   pub within : e .offset ≤ size
-  pub held : object ≡ true → e .id < names
+  pub held : e .id < names
 
 either : (t u : Bool) → (t || u) ≡ false → (t ≡ false) × (u ≡ false)
 either true u e = absurd (true≢false e)
 either false u e = (refl, e)
 
 -- entries that are not misplaced are all well placed, and the other way round
-pub placed-all : (object : Bool) (names size : ℕ) (es : List Entry) → misplaced object names size es ≡ false → (x : Entry) → Mem x es → Placed object names size x
+pub placed-all : (names size : ℕ) (es : List Entry) → misplaced true names size es ≡ false → (x : Entry) → Mem x es → Placed names size x
 unfolding misplaced
-placed-all object names size [] h x m = absurd m
-placed-all object names size (e ∷ es) h x m =
-    let a = either (ltb size (e .offset) || (object && leb names (e .id))) (misplaced object names size es) h in
-    let b = either (ltb size (e .offset)) (object && leb names (e .id)) (a .0) in
-    let p : Placed object names size e = record { within = ltb-false size (e .offset) (b .0); held = λ q. leb-false names (e .id) (rw q at (b .1)) } in
-    elim m [ inl q ↦ subst (Placed object names size) (sym q) p | inr k ↦ placed-all object names size es (a .1) x k ]
+placed-all names size [] h x m = absurd m
+placed-all names size (e ∷ es) h x m =
+    let a = either (ltb size (e .offset) || leb names (e .id)) (misplaced true names size es) h in
+    let b = either (ltb size (e .offset)) (leb names (e .id)) (a .0) in
+    let p : Placed names size e = record { within = ltb-false size (e .offset) (b .0); held = leb-false names (e .id) (b .1) } in
+    elim m [ inl q ↦ subst (Placed names size) (sym q) p | inr k ↦ placed-all names size es (a .1) x k ]
 
-pub all-placed : (object : Bool) (names size : ℕ) (es : List Entry) → ((x : Entry) → Mem x es → Placed object names size x) → misplaced object names size es ≡ false
+pub all-placed : (names size : ℕ) (es : List Entry) → ((x : Entry) → Mem x es → Placed names size x) → misplaced true names size es ≡ false
 unfolding misplaced
-all-placed object names size [] h = refl
-all-placed object names size (e ∷ es) h =
+all-placed names size [] h = refl
+all-placed names size (e ∷ es) h =
     let p = h e (inl refl) in
-    rw (le-ltb size (e .offset) (p .within), go object refl (p .held), all-placed object names size es (λ x m. h x (inr m)))
-  where
-    go : (t : Bool) → object ≡ t → (object ≡ true → e .id < names) → (object && leb names (e .id)) ≡ false
-    go true q k = rw q (lt-leb names (e .id) (k q))
-    go false q k = rw q
+    rw (le-ltb size (e .offset) (p .within), lt-leb names (e .id) (p .held), all-placed names size es (λ x m. h x (inr m)))
 
 -- with more names and data they stay so
-pub placed-grows : {object : Bool} {names more size room : ℕ} {e : Entry} → names ≤ more → size ≤ room → Placed object names size e → Placed object more room e
-placed-grows h k p = record { within = omega (arith, p .within); held = λ q. omega (arith, p .held q) }
-
-below-mem : (b : ℕ) (es : List Entry) → Below b (offsetsOf es) → (x : Entry) → Mem x es → x .offset < b
-below-mem b [] h x m = absurd m
-below-mem b (e ∷ es) h x (inl q) = rw q (h .0)
-below-mem b (e ∷ es) h x (inr k) = below-mem b es (h .1) x k
+pub placed-grows : {names more size room : ℕ} {e : Entry} → names ≤ more → size ≤ room → Placed names size e → Placed more room e
+placed-grows h k p = record { within = omega (arith, p .within); held = omega (arith, p .held) }
 
 -- ---- an item goes last
+
+count-snoc : (is : Items) (m : Mark) (t : Tree) → itemCount (snoc is m t) ≡ itemCount is + 1
+unfolding itemCount snoc
+count-snoc empty m t = refl
+count-snoc (item k u is) m t = omega (arith, count-snoc is m t)
 
 field-behind : (ns : List Name) (at : ℕ) (m : Mark) (es fs : List Entry) → withField ns at m (es ++ fs) ≡ withField ns at m es ++ fs
 unfolding withField
@@ -147,13 +145,6 @@ module _ (floor : ℕ) (ns : List Name) where
   unfolding partsOf snoc dataOf
   data-snoc empty m t = append-nil (encode floor ns t)
   data-snoc (item k u is) m t = ap (λ b. encode floor ns u ++ b) (data-snoc is m t) ∙ sym (append-assoc (encode floor ns u) (dataOf (partsOf floor ns is)) (encode floor ns t))
-
-  starts-snoc : (at : ℕ) (is : Items) (m : Mark) (t : Tree) → startsFrom at (partsOf floor ns (snoc is m t)) ≡ startsFrom at (partsOf floor ns is) ++ ((at + length (dataOf (partsOf floor ns is))) ∷ [])
-  unfolding partsOf snoc startsFrom dataOf
-  starts-snoc at empty m t = ap (λ n. n ∷ []) (sym (add-zero at))
-  starts-snoc at (item k u is) m t =
-      let e : at + length (encode floor ns u) + length (dataOf (partsOf floor ns is)) ≡ at + length (encode floor ns u ++ dataOf (partsOf floor ns is)) = omega (arith, length-append (encode floor ns u) (dataOf (partsOf floor ns is))) in
-      rw (starts-snoc (at + length (encode floor ns u)) is m t, e)
 
   fields-snoc : (at : ℕ) (is : Items) (m : Mark) (t : Tree)
       → fieldsFrom ns at (partsOf floor ns (snoc is m t)) ≡ fieldsFrom ns at (partsOf floor ns is) ++ withField ns (at + length (dataOf (partsOf floor ns is))) m []
@@ -206,25 +197,31 @@ pub record Fields (ns : List Name) (seg fields : List Entry) : Type 0 where
   pub outof : Incl fields seg
   pub apart : IdsApart seg
 
-abbrev pub Ents : ℕ → Bool → List Name → List Entry → Items → Type 0
-Ents floor false ns seg is = offsetsOf seg ≡ startsFrom 0 (partsOf floor ns is)
-Ents floor true ns seg is = Fields ns seg (fieldsFrom ns 0 (partsOf floor ns is))
+-- a list has none, and counts its items
+pub record Elements (seg : List Entry) (n : ℕ) (is : Items) : Type 0 where
+  pub noEntries : seg ≡ []
+  pub count : n ≡ itemCount is
 
--- where these are the names, a container of that kind with these entries and data has these items
-pub record Layer (floor : ℕ) (ns : List Name) (object : Bool) (is : Items) (seg : List Entry) (bs : List ℕ) : Type 0 where
+abbrev pub Ents : ℕ → Bool → List Name → List Entry → ℕ → Items → Type 0
+Ents floor false ns seg n is = Elements seg n is
+Ents floor true ns seg n is = Fields ns seg (fieldsFrom ns 0 (partsOf floor ns is))
+
+-- where these are the names, a container of that kind with these entries, so many elements and this data has these items
+pub record Layer (floor : ℕ) (ns : List Name) (object : Bool) (is : Items) (seg : List Entry) (n : ℕ) (bs : List ℕ) : Type 0 where
   pub body : bs ≡ dataOf (partsOf floor ns is)
-  pub entries : Ents floor object ns seg is
+  pub entries : Ents floor object ns seg n is
 
 -- nothing is in it yet
-pub layer-new : (floor : ℕ) (ns : List Name) (object : Bool) → Layer floor ns object empty [] []
-unfolding partsOf dataOf startsFrom fieldsFrom
-layer-new floor ns false = record { body = refl; entries = refl }
+pub layer-new : (floor : ℕ) (ns : List Name) (object : Bool) → Layer floor ns object empty [] 0 []
+unfolding partsOf dataOf fieldsFrom itemCount
+layer-new floor ns false = record { body = refl; entries = record { noEntries = refl; count = refl } }
 layer-new floor ns true = record { body = refl; entries = record { into = λ x m. m; outof = λ x m. m; apart = tt } }
 
 -- names that come later change nothing
-pub layer-grows : {floor : ℕ} {ns ms : List Name} (object : Bool) (is : Items) {seg : List Entry} {bs : List ℕ} → Extends ns ms → HeldItems ns is → Layer floor ns object is seg bs → Layer floor ms object is seg bs
-layer-grows {floor} {ns} {ms} object is {seg} {bs} e h l =
-    subst (λ (z : List Name). Layer floor z object is seg bs) (sym (e .grown))
+pub layer-grows : {floor : ℕ} {ns ms : List Name} (object : Bool) (is : Items) {seg : List Entry} {n : ℕ} {bs : List ℕ} → Extends ns ms → HeldItems ns is
+    → Layer floor ns object is seg n bs → Layer floor ms object is seg n bs
+layer-grows {floor} {ns} {ms} object is {seg} {n} {bs} e h l =
+    subst (λ (z : List Name). Layer floor z object is seg n bs) (sym (e .grown))
     (record { body = l .body ∙ ap dataOf (sym p); entries = go object (l .entries) })
   where
     p : partsOf floor (ns ++ e .more) is ≡ partsOf floor ns is
@@ -233,8 +230,8 @@ layer-grows {floor} {ns} {ms} object is {seg} {bs} e h l =
     q : fieldsFrom (ns ++ e .more) 0 (partsOf floor (ns ++ e .more) is) ≡ fieldsFrom ns 0 (partsOf floor ns is)
     q = ap (fieldsFrom (ns ++ e .more) 0) p ∙ fields-grow floor ns (e .more) 0 is h
 
-    go : (k : Bool) → Ents floor k ns seg is → Ents floor k (ns ++ e .more) seg is
-    go false f = f ∙ ap (startsFrom 0) (sym p)
+    go : (k : Bool) → Ents floor k ns seg n is → Ents floor k (ns ++ e .more) seg n is
+    go false f = f
     go true f = record { into = rw q (f .into); outof = rw q (f .outof); apart = f .apart }
 
 -- ---- a value enters
@@ -252,23 +249,18 @@ snoc-mem (f ∷ es) e x (inl (inl p)) = inl p
 snoc-mem (f ∷ es) e x (inl (inr k)) = inr (snoc-mem es e x (inl k))
 snoc-mem (f ∷ es) e x (inr p) = inr (snoc-mem es e x (inr p))
 
-offsets-snoc : (es : List Entry) (e : Entry) → offsetsOf (es ++ (e ∷ [])) ≡ offsetsOf es ++ (e .offset ∷ [])
-offsets-snoc [] e = refl
-offsets-snoc (f ∷ es) e = ap (λ z. f .offset ∷ z) (offsets-snoc es e)
-
--- A VALUE ENTERS: in the machine a note and bytes, in the history an item.
-pub layer-enter : (floor : ℕ) (ns : List Name) (object : Bool) (is : Items) (seg : List Entry) (bs : List ℕ) (nm : Option Name) (t : Tree) → HeldItems ns is → Named object nm → HeldName ns nm
-    → Layer floor ns object is seg bs → Layer floor ns object (entered nm t is) (noteIn ns nm (length bs) seg) (bs ++ encode floor ns t)
+-- A VALUE ENTERS: in the machine a note or an element, and bytes, in the history an item.
+pub layer-enter : (floor : ℕ) (ns : List Name) (object : Bool) (is : Items) (seg : List Entry) (count : ℕ) (bs : List ℕ) (nm : Option Name) (t : Tree) → HeldItems ns is → Named object nm → HeldName ns nm
+    → Layer floor ns object is seg count bs → Layer floor ns object (entered nm t is) (noteIn ns nm (length bs) seg) (cond object count (count + 1)) (bs ++ encode floor ns t)
 unfolding entered noteIn withField
-layer-enter floor ns true is seg bs none t h n k l = absurd n
-layer-enter floor ns false is seg bs (some x) t h n k l = absurd n
-layer-enter floor ns false is seg bs none t h n k l =
-    let z : 0 + length (dataOf (partsOf floor ns is)) ≡ length bs = zero-add (length (dataOf (partsOf floor ns is))) ∙ ap length (sym (l .body)) in
+layer-enter floor ns true is seg count bs none t h n k l = absurd n
+layer-enter floor ns false is seg count bs (some x) t h n k l = absurd n
+layer-enter floor ns false is seg count bs none t h n k l =
     record {
       body = ap (λ b. b ++ encode floor ns t) (l .body) ∙ sym (data-snoc floor ns is element t);
-      entries = offsets-snoc seg (entry 0 (length bs)) ∙ (ap (λ os. os ++ (length bs ∷ [])) (l .entries) ∙ sym (starts-snoc floor ns 0 is element t ∙ ap (λ o. startsFrom 0 (partsOf floor ns is) ++ (o ∷ [])) z));
+      entries = record { noEntries = l .entries .noEntries; count = omega (arith, l .entries .count, count-snoc is element t) };
     }
-layer-enter floor ns true is seg bs (some n) t h nm k l =
+layer-enter floor ns true is seg count bs (some n) t h nm k l =
     let i = place n ns in
     let o = length bs in
     let rs = replace n is in
@@ -344,27 +336,24 @@ ids-fields floor ns at (item element t is) = ids-fields floor ns (at + length (e
 ids-fields floor ns at (item (live n) t is) = ap (λ z. place n ns ∷ z) (ids-fields floor ns (at + length (encode floor ns t)) is)
 ids-fields floor ns at (item replaced t is) = ids-fields floor ns (at + length (encode floor ns t)) is
 
-starts-count : (floor : ℕ) (ns : List Name) (at : ℕ) (is : Items) → length (startsFrom at (partsOf floor ns is)) ≡ itemCount is
-unfolding partsOf startsFrom itemCount
-starts-count floor ns at empty = refl
-starts-count floor ns at (item m t is) = omega (arith, starts-count floor ns (at + length (encode floor ns t)) is)
+starts-count : (n at : ℕ) (bs : List ℕ) → length (startsIn n at bs) ≡ n
+unfolding startsIn
+starts-count zero at bs = refl
+starts-count (suc n) at bs = ap suc (starts-count n (at + measured bs) (drop (measured bs) bs))
 
 put-count : (i o : ℕ) (es : List Entry) → length (put i o es) ≡ cond (hasId i es) 0 1 + length es
 put-count i o es = put-cases (λ es fs p t. length fs ≡ cond t 0 1 + length es) i o es refl (λ e es p. sym (zero-add (suc (length es)))) (λ e es p h. omega arith)
 
--- ---- what a layer tells of its entries
+-- ---- what a layer tells of its entries and elements
 
-module _ {floor : ℕ} {ns : List Name} {is : Items} {seg : List Entry} {bs : List ℕ} (h : HeldItems ns is) where
-  -- they are well placed
-  pub layer-placed : (object : Bool) → Layer floor ns object is seg bs → (x : Entry) → Mem x seg → Placed object (length ns) (length bs) x
-  layer-placed false l x m =
-      let b : Below (suc (length bs)) (offsetsOf seg) = rw (l .entries) (starts-bounded 0 (length bs) (partsOf floor ns is) (omega (arith, ap length (l .body)))) in
-      record { within = omega (arith, below-mem (suc (length bs)) seg b x m); held = λ e. absurd (true≢false (sym e)) }
-  layer-placed true l x m =
-      placed-all true (length ns) (length bs) (fieldsFrom ns 0 (partsOf floor ns is)) (fields-placed floor ns 0 (length bs) is h (omega (arith, ap length (l .body)))) x (l .entries .into x m)
+module _ {floor : ℕ} {ns : List Name} {is : Items} {seg : List Entry} {count : ℕ} {bs : List ℕ} (h : HeldItems ns is) where
+  -- an object's entries are well placed
+  pub layer-placed : Layer floor ns true is seg count bs → (x : Entry) → Mem x seg → Placed (length ns) (length bs) x
+  layer-placed l x m =
+      placed-all (length ns) (length bs) (fieldsFrom ns 0 (partsOf floor ns is)) (fields-placed floor ns 0 (length bs) is h (omega (arith, ap length (l .body)))) x (l .entries .into x m)
 
   -- a name is live exactly where it is held and has an entry
-  pub layer-live : Layer floor ns true is seg bs → (n : Name) → (ltb (place n ns) (length ns) && hasId (place n ns) seg) ≡ isLive n is
+  pub layer-live : Layer floor ns true is seg count bs → (n : Name) → (ltb (place n ns) (length ns) && hasId (place n ns) seg) ≡ isLive n is
   layer-live l n = go (ltb (place n ns) (length ns)) refl
     where
       go : (t : Bool) → ltb (place n ns) (length ns) ≡ t → (t && hasId (place n ns) seg) ≡ isLive n is
@@ -372,43 +361,54 @@ module _ {floor : ℕ} {ns : List Name} {is : Items} {seg : List Entry} {bs : Li
       go false p = sym (not-held ns n is h (ltb-false (place n ns) (length ns) p))
 
   -- sorted, an object's are those of its live items
-  pub layer-sorted : dictionary.Distinct ns → ApartItems is → Layer floor ns true is seg bs → sort ns seg ≡ sort ns (fieldsFrom ns 0 (partsOf floor ns is))
+  pub layer-sorted : dictionary.Distinct ns → ApartItems is → Layer floor ns true is seg count bs → sort ns seg ≡ sort ns (fieldsFrom ns 0 (partsOf floor ns is))
   layer-sorted d a l =
-      sort-unique ns seg (fieldsFrom ns 0 (partsOf floor ns is)) (names-apart seg (λ x m. layer-placed true l x m .held refl) (l .entries .apart)) (fields-apart floor ns 0 is h a) (l .entries .into) (l .entries .outof)
+      sort-unique ns seg (fieldsFrom ns 0 (partsOf floor ns is)) (names-apart seg (λ x m. layer-placed l x m .held) (l .entries .apart)) (fields-apart floor ns 0 is h a) (l .entries .into) (l .entries .outof)
     where
       names-apart : (es : List Entry) → ((x : Entry) → Mem x es → x .id < length ns) → IdsApart es → Distinct ns es
       names-apart [] b c = tt
       names-apart (e ∷ es) b c = ((λ y m z. c .0 y m (d .one (y .id) (e .id) (b y (inr m)) (b e (inl refl)) z)), names-apart es (λ x m. b x (inr m)) (c .1))
 
   -- they are as many as the ledger counts
-  pub layer-count : (object : Bool) → dictionary.Distinct ns → ApartItems is → Layer floor ns object is seg bs → length seg ≡ cond object (length (liveIds ns is)) (itemCount is)
-  layer-count false d a l = sym (length-map seg (λ e. e .offset)) ∙ (ap length (l .entries) ∙ starts-count floor ns 0 is)
+  pub layer-count : (object : Bool) → dictionary.Distinct ns → ApartItems is → Layer floor ns object is seg count bs → length seg ≡ cond object (length (liveIds ns is)) 0
+  layer-count false d a l = ap length (l .entries .noEntries)
   layer-count true d a l =
       let fs = fieldsFrom ns 0 (partsOf floor ns is) in
       sym (length-sort ns seg) ∙ (ap length (layer-sorted d a l) ∙ (length-sort ns fs ∙ (sym (length-map fs (λ e. e .id)) ∙ ap length (ids-fields floor ns 0 is))))
 
   -- the header's length is the ledger's
-  pub layer-header : (object : Bool) (size : ℕ) → dictionary.Distinct ns → ApartItems is → Layer floor ns object is seg bs
-      → length (headerOf floor ns object seg size) ≡ cond object (objectHeaderSize floor (length (liveIds ns is)) (largest (liveIds ns is)) size) (listHeaderSize floor (itemCount is) size)
+  pub layer-header : (object : Bool) → dictionary.Distinct ns → ApartItems is → Layer floor ns object is seg count bs → let size = length bs in
+      length (headerOf floor ns object count seg bs) ≡ cond object (objectHeaderSize floor (length (liveIds ns is)) (largest (liveIds ns is)) size) (listHeaderSize floor (itemCount is) size)
   unfolding headerOf
-  layer-header false size d a l = length-list-entries floor seg size ∙ ap (λ n. listHeaderSize floor n size) (layer-count false d a l)
-  layer-header true size d a l =
+  layer-header false d a l = length-list floor (startsIn count 0 bs) (length bs) ∙ ap (λ n. listHeaderSize floor n (length bs)) (starts-count count 0 bs ∙ l .entries .count)
+  layer-header true d a l =
       let fs = fieldsFrom ns 0 (partsOf floor ns is) in
       let c = layer-count true d a l in
       let b : largest (idsOf seg) ≡ largest (liveIds ns is) =
       sym (largest-sort ns (λ e. e .id) seg) ∙ (ap (λ (es : List Entry). largest (idsOf es)) (layer-sorted d a l) ∙ (largest-sort ns (λ e. e .id) fs ∙ ap largest (ids-fields floor ns 0 is))) in
-      length-object-entries ns size seg floor ∙ (λ i. objectHeaderSize floor (c i) (b i) size)
+      length-object-entries ns (length bs) seg floor ∙ (λ i. objectHeaderSize floor (c i) (b i) (length bs))
+
+  -- a list's data is as many whole values as it counts, and has no fewer bytes
+  pub layer-whole : FormedItems false is → length bs < 256 ^ 4 → Layer floor ns false is seg count bs → wholeValues count bs ≡ true
+  layer-whole f s l = rw (l .entries .count, l .body) (items-whole floor ns false is f (omega (arith, ap length (l .body))))
+
+  pub layer-low : Layer floor ns false is seg count bs → count ≤ length bs
+  layer-low l = omega (arith, l .entries .count, ap length (l .body), items-low floor ns is)
 
   -- THE CLOSE: header and data are the tree's bytes.
-  pub layer-close : (object : Bool) → dictionary.Distinct ns → ApartItems is → Layer floor ns object is seg bs → headerOf floor ns object seg (length bs) ++ bs ≡ encode floor ns (nest object is)
+  pub layer-close : (object : Bool) → FormedItems object is → length bs < 256 ^ 4 → dictionary.Distinct ns → ApartItems is → Layer floor ns object is seg count bs
+      → headerOf floor ns object count seg bs ++ bs ≡ encode floor ns (nest object is)
   unfolding headerOf encode listBytes objectBytes
-  layer-close false d a l = λ i. listHeader floor (l .entries i) (length (l .body i)) ++ l .body i
-  layer-close true d a l = let p = layer-sorted d a l in λ i. objectHeader floor (idsOf (p i)) (offsetsOf (p i)) (length (l .body i)) ++ l .body i
+  layer-close false f s d a l =
+      let w = items-starts floor ns false is f (omega (arith, ap length (l .body))) in
+      let c : startsIn count 0 bs ≡ startsFrom 0 (partsOf floor ns is) = (λ i. startsIn (l .entries .count i) 0 (l .body i)) ∙ w in
+      λ i. listHeader floor (c i) (length (l .body i)) ++ l .body i
+  layer-close true f s d a l = let p = layer-sorted d a l in λ i. objectHeader floor (idsOf (p i)) (offsetsOf (p i)) (length (l .body i)) ++ l .body i
 
   -- a note adds an entry unless it replaces one
-  pub note-count : (object : Bool) (nm : Option Name) (o : ℕ) → Named object nm → HeldName ns nm → Layer floor ns object is seg bs → length (noteIn ns nm o seg) ≡ ownEntry nm is + length seg
+  pub note-count : (object : Bool) (nm : Option Name) (o : ℕ) → Named object nm → HeldName ns nm → Layer floor ns object is seg count bs → length (noteIn ns nm o seg) ≡ ownEntry nm is + length seg
   unfolding noteIn
-  note-count object none o n k l = omega (arith, length-append seg (entry 0 o ∷ []))
+  note-count object none o n k l = omega arith
   note-count false (some x) o n k l = absurd n
   note-count true (some x) o n k l =
       let a : hasId (place x ns) seg ≡ isLive x is = ap (λ t. t && hasId (place x ns) seg) (sym (lt-ltb (place x ns) (length ns) k)) ∙ layer-live l x in
@@ -446,47 +446,51 @@ put-origin i o es = put-cases (λ es fs p t. Origin i o p es fs) i o es refl
         (h .0, put-miss i q e fs p ∙ ap (λ z. e ∷ z) (h .1), inr (h .2), has-first i e fs ∙ (ap (λ t. t || hasId i fs) (ne-eqb (e .id) i p) ∙ h .3))
 
 -- the entries behind the first k, with that one undone
-abbrev pub undone : ℕ → ParentEntry → List Entry → List Entry
-undone k New es = take (length es - 1) es
-undone k (Replaced i o) es = take k es ++ put i o (drop k es)
+abbrev pub undone : Bool → ℕ → ParentEntry → List Entry → List Entry
+undone object k New es = cond object (take (length es - 1) es) es
+undone object k (Replaced i o) es = take k es ++ put i o (drop k es)
 
 take-snoc : (es : List Entry) (e : Entry) → take (length (es ++ (e ∷ [])) - 1) (es ++ (e ∷ [])) ≡ es
 take-snoc es e = take-at es (e ∷ []) (length (es ++ (e ∷ [])) - 1) (omega (arith, length-append es (e ∷ [])))
 
-undo-put : (base es fs : List Entry) (i o : ℕ) (p : ParentEntry) → Origin i o p es fs → undone (length base) p (base ++ fs) ≡ base ++ es
+undo-put : (base es fs : List Entry) (i o : ℕ) (p : ParentEntry) → Origin i o p es fs → undone true (length base) p (base ++ fs) ≡ base ++ es
 undo-put base es fs i o New r = rw (r, ← append-assoc base es (entry i o ∷ [])) (take-snoc (base ++ es) (entry i o))
 undo-put base es fs i o (Replaced j q) r = rw (take-at base fs (length base) refl, drop-at base fs (length base) refl, r .0, r .1)
 
 -- a note undone by its own kind brings the entries again
-pub undo-note : (ns : List Name) (nm : Option Name) (o : ℕ) (base seg : List Entry) → undone (length base) (linkIn ns nm seg) (base ++ noteIn ns nm o seg) ≡ base ++ seg
+pub undo-note : (object : Bool) (ns : List Name) (nm : Option Name) (o : ℕ) (base seg : List Entry) → Named object nm → undone object (length base) (linkIn ns nm seg) (base ++ noteIn ns nm o seg) ≡ base ++ seg
 unfolding linkIn noteIn
-undo-note ns none o base seg = undo-put base seg (seg ++ (entry 0 o ∷ [])) 0 o New refl
-undo-note ns (some n) o base seg = undo-put base seg (put (place n ns) o seg) (place n ns) o (find (place n ns) seg) (put-origin (place n ns) o seg)
+undo-note true ns none o base seg n = absurd n
+undo-note false ns (some x) o base seg n = absurd n
+undo-note false ns none o base seg n = refl
+undo-note true ns (some x) o base seg n = undo-put base seg (put (place x ns) o seg) (place x ns) o (find (place x ns) seg) (put-origin (place x ns) o seg)
 
--- the noted entries are well placed
-pub note-placed : (ns : List Name) (object : Bool) (nm : Option Name) (o : ℕ) (seg : List Entry) → HeldName ns nm → Named object nm
-    → ((x : Entry) → Mem x seg → Placed object (length ns) o x) → (x : Entry) → Mem x (noteIn ns nm o seg) → Placed object (length ns) o x
+-- an object's noted entries are well placed
+pub note-placed : (ns : List Name) (nm : Option Name) (o : ℕ) (seg : List Entry) → HeldName ns nm
+    → ((x : Entry) → Mem x seg → Placed (length ns) o x) → (x : Entry) → Mem x (noteIn ns nm o seg) → Placed (length ns) o x
 unfolding noteIn
-note-placed ns true none o seg k n h x m = absurd n
-note-placed ns false (some y) o seg k n h x m = absurd n
-note-placed ns false none o seg k n h x m = elim (mem-snoc seg (entry 0 o) x m) [ inl j ↦ h x j | inr q ↦ rw q (record { within = omega arith; held = λ e. absurd (true≢false (sym e)) }) ]
-note-placed ns true (some y) o seg k n h x m =
-    put-cases (λ es fs p t. ((x : Entry) → Mem x es → Placed true (length ns) o x) → Mem x fs → Placed true (length ns) o x) (place y ns) o seg
+note-placed ns none o seg k h x m = h x m
+note-placed ns (some y) o seg k h x m =
+    put-cases (λ es fs p t. ((x : Entry) → Mem x es → Placed (length ns) o x) → Mem x fs → Placed (length ns) o x) (place y ns) o seg
     (λ h m. elim m [ inl q ↦ rw q own | inr j ↦ absurd j ])
     (λ e es p h m. elim m [ inl q ↦ rw q own | inr j ↦ h x (inr j) ])
     (λ e es p g h m. elim m [ inl q ↦ h x (inl q) | inr j ↦ g (λ z i. h z (inr i)) j ]) h m
   where
-    own : Placed true (length ns) o (entry (place y ns) o)
-    own = record { within = omega arith; held = λ e. k }
+    own : Placed (length ns) o (entry (place y ns) o)
+    own = record { within = omega arith; held = k }
 
--- the own entry is among them, as number 1 asks at roll back
-pub note-owned : (ns : List Name) (object : Bool) (nm : Option Name) (o size : ℕ) (seg : List Entry) → Named object nm → ((x : Entry) → Mem x seg → Placed object (length ns) size x)
-    → orphaned (linkIn ns nm seg) object size (noteIn ns nm o seg) ≡ false
+-- the own entry is among them, as number 1 asks at roll back; of a list there is an element
+pub list-owned : (ns : List Name) (nm : Option Name) (o size count : ℕ) (seg : List Entry) → Named false nm → 0 < count → orphaned (linkIn ns nm seg) false count size (noteIn ns nm o seg) ≡ false
 unfolding linkIn noteIn
-note-owned ns object none o size seg n h = ne-eqb (length (seg ++ (entry 0 o ∷ []))) 0 (λ e. omega (arith, length-append seg (entry 0 o ∷ [])))
-note-owned ns false (some y) o size seg n h = absurd n
-note-owned ns true (some y) o size seg n h = go (find (place y ns) seg) (put-origin (place y ns) o seg)
+list-owned ns none o size count seg n h = ne-eqb count 0 (λ e. omega arith)
+list-owned ns (some y) o size count seg n h = absurd n
+
+pub note-owned : (ns : List Name) (nm : Option Name) (o size count : ℕ) (seg : List Entry) → Named true nm → ((x : Entry) → Mem x seg → Placed (length ns) size x)
+    → orphaned (linkIn ns nm seg) true count size (noteIn ns nm o seg) ≡ false
+unfolding linkIn noteIn
+note-owned ns none o size count seg n h = absurd n
+note-owned ns (some y) o size count seg n h = go (find (place y ns) seg) (put-origin (place y ns) o seg)
   where
-    go : (p : ParentEntry) → Origin (place y ns) o p seg (put (place y ns) o seg) → orphaned p true size (put (place y ns) o seg) ≡ false
+    go : (p : ParentEntry) → Origin (place y ns) o p seg (put (place y ns) o seg) → orphaned p true count size (put (place y ns) o seg) ≡ false
     go New r = ne-eqb (length (put (place y ns) o seg)) 0 (λ e. omega (arith, length-append seg (entry (place y ns) o ∷ []), ap length r))
     go (Replaced j q) r = rw (r .0, r .3) (le-ltb size q (h (entry (place y ns) q) (r .2) .within))

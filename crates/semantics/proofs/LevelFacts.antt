@@ -1,29 +1,33 @@
 -- What the levels tell: the counts that the table's rows ask for, and that number 1 never comes.
 use mathlib.Core.Path.{_≡_, refl, sym, _∙_, ap}
-use mathlib.Core.Bool.{Bool, true, false, cond, _&&_}
+use mathlib.Core.Bool.{Bool, true, false, cond, not, _&&_, _||_}
 use mathlib.Core.List.{List, [], _∷_, _++_, append-assoc}
 use mathlib.Core.Option.{Option, none, some}
-use Prim.Native.Nat.{ℕ, suc, _+_, _-_, _≤_}
+use Prim.Native.Nat.{ℕ, suc, _+_, _-_, _^_, _≤_, _<_}
+use native.Mathlib.Nat.{add-zero}
 use native.Mathlib.Omega.{arith}
-use lib.Dec.{ltb}
+use lib.Dec.{leb, ltb}
 use lib.Seq.{take-at, drop-at}
 use lib.ListN.{drop, take, length, length-append}
+use borrow.Author.Tests.{le-leb}
 use Rattle.metadata.specs.Names.{Name, place}
 use Rattle.metadata.specs.Bytes.{joined}
 use Rattle.metadata.proofs.DictionaryLaws.{Distinct, distinct-front}
 use Rattle.container.specs.declared.Entry.{Entry}
-use Rattle.container.specs.Entries.{seek}
+use Rattle.container.specs.Entries.{misplaced, seek}
 use Rattle.container.proofs.SortLaws.{Mem}
+use Rattle.measure.specs.Measure.{wholeValues}
 use Rattle.semantics.specs.declared.Container.{Container}
+use Rattle.semantics.specs.Damage.{orphaned}
 use Rattle.semantics.specs.Tree.{element, live, replaced, Tree, Items, empty, item}
 use Rattle.semantics.specs.History.{Level}
 use Rattle.semantics.specs.Ledger.{liveIds, isLive, total, innerSum, headerSize, markNow, liveIn, entryCount, ownEntry, entriesUsed}
 use Rattle.semantics.specs.Ledger as ledger
-use Rattle.semantics.proofs.TreeLaws.{HeldItems, items-grow}
+use Rattle.semantics.proofs.TreeLaws.{FormedItems, HeldItems, items-grow}
 use Rattle.semantics.proofs.HistoryLaws.{Extends, HeldName, Named, Chained, innerObject, with-extends, with-held, FormedLevels}
-use Rattle.semantics.proofs.Machine.{Machine, noteIn, linkIn, note, linkOf, headerOf, anyOpen, objectInner, uniqueAt, liveAt, headerAt, Rising, InnerPlaced, ParentPlaced}
-use Rattle.semantics.proofs.LayerLaws.{Layer, layer-grows, layer-placed, layer-live, layer-count, layer-header, note-count, Placed, all-placed, placed-grows, note-placed, note-owned}
-use Rattle.semantics.proofs.LevelLaws.{Used, Levels, ownNames, noted, front-entries, own-entries, own-size, names-roll}
+use Rattle.semantics.proofs.Machine.{Machine, noteIn, linkIn, note, linkOf, firstOf, restOf, oneMore, headerOf, anyOpen, objectInner, uniqueAt, liveAt, headerAt, Rising, Counting, InnerPlaced, ParentPlaced}
+use Rattle.semantics.proofs.LayerLaws.{Layer, layer-grows, layer-placed, layer-live, layer-count, layer-header, layer-whole, layer-low, note-count, Placed, all-placed, placed-grows, note-placed, list-owned, note-owned}
+use Rattle.semantics.proofs.LevelLaws.{Used, Levels, ownNames, noted, front-entries, own-entries, own-bytes, own-size, names-roll}
 
 held-extends : {ns ms : List Name} (is : Items) → Extends ns ms → HeldItems ns is → HeldItems ms is
 held-extends {ns} is e h = rw (e .grown) (items-grow ns (e .more) is h)
@@ -53,11 +57,11 @@ live-count ns ms (item replaced t is) = live-count ns ms is
 used-same : (ns ms : List Name) (ls : List Level) → entriesUsed ns ls ≡ entriesUsed ms ls
 unfolding entriesUsed
 used-same ns ms [] = refl
-used-same ns ms (l ∷ []) = ap (λ n. cond (l .object) n (ledger.itemCount (l .items))) (live-count ns ms (l .items))
+used-same ns ms (l ∷ []) = ap (λ n. cond (l .object) n 0) (live-count ns ms (l .items))
 used-same ns ms (l ∷ (p ∷ ls)) =
     let a = live-count ns ms (l .items) in
     let b = used-same ns ms (p ∷ ls) in
-    λ i. cond (l .object) (a i) (ledger.itemCount (l .items)) + (ownEntry (l .own) (p .items) + b i)
+    λ i. cond (l .object) (a i) 0 + (ownEntry (l .own) (p .items) + b i)
 
 abbrev ownIn : Option Name → List Level → ℕ
 ownIn nm [] = 0
@@ -125,7 +129,7 @@ levels-depth floor top u (l ∷ ls) (k ∷ ks) ns s x = ap (λ n. suc n) (levels
 module _ (m : Machine) (sums : List ℕ) (marks : List Bool) where
   -- what the machine uses
   abbrev pub usedBy : Used
-  usedBy = record { bytes = m .bytes; entries = m .entries; sums = sums; marks = marks }
+  usedBy = record { bytes = m .bytes; entries = m .entries; elements = m .elements; sums = sums; marks = marks }
 
   -- the uniqueness mark in force
   pub levels-unique : (floor : ℕ) (top : Option Tree) (ls : List Level) (ks : List Container) → Levels floor top (m .unique) ls ks (m .names) usedBy → uniqueAt m ks ≡ markNow marks
@@ -145,7 +149,7 @@ module _ (m : Machine) (sums : List ℕ) (marks : List Bool) where
       let g = own-entries x in
       ap (λ (es : List Entry). ltb (place y (m .names)) (length (m .names)) && ltb (seek (place y (m .names)) es) (length es)) g ∙ go (l .object) n (x .layer)
     where
-      go : (object : Bool) → Named object (some y) → Layer floor (m .names) object (l .items) (x .seg) (x .body)
+      go : (object : Bool) → Named object (some y) → Layer floor (m .names) object (l .items) (x .seg) (x .count) (x .body)
           → (ltb (place y (m .names)) (length (m .names)) && ltb (seek (place y (m .names)) (x .seg)) (length (x .seg))) ≡ isLive y (l .items)
       go true n l = layer-live (c .0 .held) l y
       go false n l = absurd n
@@ -159,20 +163,64 @@ module _ (m : Machine) (sums : List ℕ) (marks : List Bool) where
   levels-header top u (l ∷ ls) [] d c x = absurd x
   levels-header top u (l ∷ ls) (k ∷ ks) d c x =
       let g = own-entries x in
-      let o = own-size x in
+      let o = own-bytes x in
       let b = x .opened .object in
+      let w = x .elementsAre in
       let p : innerSum sums ≡ length (x .body) = ap innerSum (x .sumsAre) in
-      ap length (λ i. headerOf (m .floor) (m .names) (b i) (g i) (o i)) ∙ (layer-header (c .0 .held) (l .object) (length (x .body)) d (c .0 .apart) (x .layer) ∙ ap (headerSize (m .floor) (m .names) (l ∷ ls)) (sym p))
+      ap length (λ i. headerOf (m .floor) (m .names) (b i) (firstOf 0 (w i)) (g i) (o i)) ∙ (layer-header (c .0 .held) (l .object) d (c .0 .apart) (x .layer) ∙ ap (headerSize (m .floor) (m .names) (l ∷ ls)) (sym p))
 
   -- ---- orderly
 
-  -- the innermost's entries are well placed
-  pub levels-inner : (floor : ℕ) (top : Option Tree) (u : Bool) (ls : List Level) (ks : List Container) → Chained (m .names) top ls → Levels floor top u ls ks (m .names) usedBy → InnerPlaced m ks
-  levels-inner floor top u [] [] c x = tt
-  levels-inner floor top u [] (k ∷ ks) c x = absurd x
-  levels-inner floor top u (l ∷ ls) [] c x = absurd x
-  levels-inner floor top u (l ∷ ls) (k ∷ ks) c x =
-      (rw (own-entries x, own-size x, x .opened .object) (all-placed (l .object) (length (m .names)) (length (x .body)) (x .seg) (layer-placed (c .0 .held) (l .object) (x .layer))), rw (names-roll x) (x .opened .text))
+  -- the innermost's entries are well placed, and a list's data is whole values
+  pub levels-inner : (floor : ℕ) (top : Option Tree) (u : Bool) (ls : List Level) (ks : List Container) → FormedLevels ls → Chained (m .names) top ls → length (m .bytes) < 256 ^ 4
+      → Levels floor top u ls ks (m .names) usedBy → InnerPlaced m ks
+  levels-inner floor top u [] [] f c small x = tt
+  levels-inner floor top u [] (k ∷ ks) f c small x = absurd x
+  levels-inner floor top u (l ∷ ls) [] f c small x = absurd x
+  levels-inner floor top u (l ∷ ls) (k ∷ ks) f c small x = (
+    rw (own-entries x, own-size x, x .opened .object) (placed (l .object) (x .layer)),
+    rw (names-roll x) (x .opened .text),
+    rw (own-bytes x, x .elementsAre, x .opened .object) (whole (l .object) (f .0) (x .layer)),
+  )
+    where
+      placed : (object : Bool) → Layer floor (m .names) object (l .items) (x .seg) (x .count) (x .body) → (object && misplaced true (length (m .names)) (length (x .body)) (x .seg)) ≡ false
+      placed false y = refl
+      placed true y = all-placed (length (m .names)) (length (x .body)) (x .seg) (layer-placed (c .0 .held) y)
+
+      whole : (object : Bool) → FormedItems object (l .items) → Layer floor (m .names) object (l .items) (x .seg) (x .count) (x .body) → (not object && not (wholeValues (x .count) (x .body))) ≡ false
+      whole false g y = ap not (layer-whole (c .0 .held) g (omega (arith, ap length (x .bytesAre), length-append (x .outer .bytes) (x .body))) y)
+      whole true g y = refl
+
+-- no list counts more than its data bytes, and with one element more than one above them
+layer-counts : {floor : ℕ} {ns : List Name} {is : Items} {seg : List Entry} {count : ℕ} {body : List ℕ} (object : Bool) (child : ℕ) → HeldItems ns is → Layer floor ns object is seg count body
+    → (object || leb (cond object count (count + child)) (length body + child)) ≡ true
+layer-counts true child h l = refl
+layer-counts {count} {body} false child h l = le-leb (count + child) (length body + child) (omega (arith, layer-low h l))
+
+-- so that none counts too much with a child open in it
+counting-child : (floor : ℕ) (top : Option Tree) (u : Bool) (ls : List Level) (ks : List Container) (ns : List Name) (s : Used) → Chained ns top ls → Levels floor top u ls ks ns s
+    → Counting ks (oneMore ks (s .elements)) (length (s .bytes)) 1
+unfolding oneMore
+counting-child floor top u [] [] ns s c x = x .elementsAre
+counting-child floor top u [] (k ∷ ks) ns s c x = absurd x
+counting-child floor top u (l ∷ ls) [] ns s c x = absurd x
+counting-child floor top u (l ∷ ls) (k ∷ ks) ns s c x =
+    let later : Counting ks (oneMore ks (x .outer .elements)) (k .value) 1 = rw (x .opened .value) (counting-child floor top u ls ks (l .before) (x .outer) (c .1) (x .under)) in
+    rw (x .elementsAre, own-size x, x .opened .object) (layer-counts (l .object) 1 (c .0 .held) (x .layer), later)
+
+-- nor without one
+pub levels-counting : (floor : ℕ) (top : Option Tree) (u : Bool) (ls : List Level) (ks : List Container) (ns : List Name) (s : Used) → Chained ns top ls → Levels floor top u ls ks ns s
+    → Counting ks (s .elements) (length (s .bytes)) 0
+levels-counting floor top u [] [] ns s c x = x .elementsAre
+levels-counting floor top u [] (k ∷ ks) ns s c x = absurd x
+levels-counting floor top u (l ∷ ls) [] ns s c x = absurd x
+levels-counting floor top u (l ∷ ls) (k ∷ ks) ns s c x =
+    let later : Counting ks (oneMore ks (x .outer .elements)) (k .value) 1 = rw (x .opened .value) (counting-child floor top u ls ks (l .before) (x .outer) (c .1) (x .under)) in
+    rw (x .elementsAre, own-size x, x .opened .object) (go (l .object) (layer-counts (l .object) 0 (c .0 .held) (x .layer)), later)
+  where
+    go : (t : Bool) → (t || leb (cond t (x .count) (x .count + 0)) (length (x .body) + 0)) ≡ true → (t || leb (x .count) (length (x .body) + 0)) ≡ true
+    go true e = refl
+    go false e = rw (sym (add-zero (x .count))) e
 
 joined-append : (ns ms : List Name) → joined (ns ++ ms) ≡ joined ns ++ joined ms
 unfolding joined
@@ -203,7 +251,7 @@ levels-rising floor top u (l ∷ ls) (k ∷ ks) ns s value names text entries v 
 -- the parent's entries are well placed, and the innermost's own is among them
 pub levels-parent : (floor : ℕ) (top : Option Tree) (u : Bool) (ls : List Level) (m : Machine) (ks : List Container) (sums : List ℕ) (marks : List Bool) → FormedLevels ls → Chained (m .names) top ls
     → Levels floor top u ls ks (m .names) (usedBy m sums marks) → ParentPlaced m ks
-unfolding note linkOf
+unfolding note linkOf oneMore
 levels-parent floor top u [] m [] sums marks f c x = tt
 levels-parent floor top u [] m (k ∷ ks) sums marks f c x = absurd x
 levels-parent floor top u (l ∷ ls) m [] sums marks f c x = absurd x
@@ -230,8 +278,19 @@ levels-parent floor top u (l ∷ (q ∷ ls)) m (k ∷ (p ∷ ks)) sums marks f c
     let more = with-extends (l .before) (l .own) in
     let few : length (l .before) ≤ length ms = omega (arith, ap length (more .grown), length-append (l .before) (more .more)) in
     let few2 : length ms ≤ length (m .names) = omega (arith, ap length (x .grows .grown), length-append ms (x .grows .more)) in
-    let pl : (z : Entry) → Mem z (y .seg) → Placed (q .object) (length ms) (length (y .body)) z = λ z i. placed-grows few (omega arith) (layer-placed (c .1 .0 .held) (q .object) (y .layer) z i) in
-    let np = note-placed ms (q .object) (l .own) (length (y .body)) (y .seg) (with-held (l .before) (l .own)) (f .1) pl in (
-      rw (es, size, ob) (all-placed (q .object) (length (m .names)) (length (y .body)) N (λ z i. placed-grows few2 (omega arith) (np z i))),
-      rw (es, size, ob, kp) (note-owned ms (q .object) (l .own) (length (y .body)) (length (y .body)) (y .seg) (f .1) pl),
-    )
+    let w : firstOf 0 (restOf (m .elements)) ≡ cond (q .object) (y .count) (y .count + 1) =
+    (λ i. firstOf 0 (restOf (x .elementsAre i))) ∙ (λ i. cond (ob i) (firstOf 0 (y .elementsAre i)) (firstOf 0 (y .elementsAre i) + 1)) in
+    let all = go (q .object) (f .1) few few2 (y .layer) in (rw (es, size, ob) (all .0), rw (es, size, ob, kp, w) (all .1))
+  where
+    go : (object : Bool) → Named object (l .own) → length (l .before) ≤ length (ownNames l) → length (ownNames l) ≤ length (m .names)
+        → let y = x .under in let N = noteIn (ownNames l) (l .own) (length (y .body)) (y .seg) in Layer floor (l .before) object (q .items) (y .seg) (y .count) (y .body)
+        → ((object && misplaced true (length (m .names)) (length (y .body)) N) ≡ false)
+        × (orphaned (linkIn (ownNames l) (l .own) (y .seg)) object (cond object (y .count) (y .count + 1)) (length (y .body)) N ≡ false)
+    go false n few few2 z = let y = x .under in (refl, list-owned (ownNames l) (l .own) (length (y .body)) (length (y .body)) (y .count + 1) (y .seg) n (omega arith))
+    go true n few few2 z =
+        let y = x .under in
+        let ms = ownNames l in
+        let size = length (y .body) in
+        let pl : (e : Entry) → Mem e (y .seg) → Placed (length ms) size e = λ e i. placed-grows few (omega arith) (layer-placed (c .1 .0 .held) z e i) in
+        let np = note-placed ms (l .own) size (y .seg) (with-held (l .before) (l .own)) pl in
+        (all-placed (length (m .names)) size (noteIn ms (l .own) size (y .seg)) (λ e i. placed-grows few2 (omega arith) (np e i)), note-owned ms (l .own) size size (y .count) (y .seg) n pl)

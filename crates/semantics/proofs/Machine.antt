@@ -15,24 +15,26 @@ use Rattle.container.specs.declared.Entry.{Entry}
 use Rattle.container.specs.Entries.{idsOf, offsetsOf, misplaced, roomFor, seek}
 use Rattle.container.specs.Layout.{listHeader, objectHeader}
 use Rattle.container.specs.Sort.{sort}
+use Rattle.measure.specs.Measure.{startsIn, wholeValues}
 use Rattle.metadata.proofs.DictionaryLaws.{Distinct}
 use Rattle.semantics.specs.declared.Container.{Container}
 use Rattle.semantics.specs.declared.ParentEntry.{ParentEntry}
 use Rattle.semantics.specs.declared.ParentEntry.the-variants.{New, Replaced}
-use Rattle.semantics.specs.Record.{Call, register, append, openIn, close, rollBack, uniqueness, finish, scalarOf, goodFloor}
+use Rattle.semantics.specs.Record.{Call, register, append, openIn, close, rollBack, uniqueness, finish, scalarOf, countable, goodFloor}
 use Rattle.semantics.specs.Damage.{orphaned}
 use Rattle.semantics.specs.Table.{scalarRows, badName}
 use Rattle.semantics.specs.Step.{withUnique}
 use Rattle.semantics.specs.History.{withName}
 use Rattle.semantics.specs.Ledger.{Lent, fullFor}
 
--- the used value bytes, the names held, the used entries, the open containers (the innermost first), the uniqueness mark, whether it is
--- finished, and the floor
+-- the used value bytes, the names held, the used entries, the open containers (the innermost first) and the elements of each, the uniqueness mark,
+-- whether it is finished, and the floor
 pub record Machine : Type 0 where
   pub bytes : List ℕ
   pub names : List Name
   pub entries : List Entry
   pub conts : List Container
+  pub elements : List ℕ
   pub unique : Bool
   pub finished : Bool
   pub floor : ℕ
@@ -49,8 +51,9 @@ unfoldable pub find : ℕ → List Entry → ParentEntry
 find i [] = New
 find i (e ∷ es) = cond (eqb (e .id) i) (Replaced i (e .offset)) (find i es)
 
+-- a list's element has none
 unfoldable pub noteIn : List Name → Option Name → ℕ → List Entry → List Entry
-noteIn ns none o es = es ++ (record { id = 0; offset = o } ∷ [])
+noteIn ns none o es = es
 noteIn ns (some n) o es = put (place n ns) o es
 
 unfoldable pub linkIn : List Name → Option Name → List Entry → ParentEntry
@@ -69,20 +72,46 @@ linkOf ns (k ∷ ks) nm es = linkIn ns nm (drop (k .entries) es)
 -- the parent's entries without the child's own
 unfoldable pub undo : List Container → ParentEntry → List Entry → List Entry
 undo [] p es = es
-undo (k ∷ ks) New es = take (length es - 1) es
+undo (k ∷ ks) New es = cond (k .object) (take (length es - 1) es) es
 undo (k ∷ ks) (Replaced i o) es = take (k .entries) es ++ put i o (drop (k .entries) es)
 
--- the header of a container with these entries and so much data
-unfoldable pub headerOf : ℕ → List Name → Bool → List Entry → ℕ → List ℕ
-headerOf floor ns object es size =
+-- ---- elements
+
+-- the first of these, or that one
+abbrev pub firstOf : {A : Type 0} → A → List A → A
+firstOf z [] = z
+firstOf z (x ∷ xs) = x
+
+-- those behind it
+abbrev pub restOf : {A : Type 0} → List A → List A
+restOf [] = []
+restOf (x ∷ xs) = xs
+
+-- a value enters: one element more, of a list
+unfoldable pub oneMore : List Container → List ℕ → List ℕ
+oneMore [] ns = ns
+oneMore (k ∷ ks) ns = cond (k .object) (firstOf 0 ns) (firstOf 0 ns + 1) ∷ restOf ns
+
+-- a child is rolled back: one less, of a list
+abbrev pub lessOf : Bool → ParentEntry → ℕ → ℕ
+lessOf object New n = cond object n (n - 1)
+lessOf object (Replaced i o) n = n
+
+unfoldable pub oneLess : List Container → ParentEntry → List ℕ → List ℕ
+oneLess [] p ns = ns
+oneLess (k ∷ ks) p ns = lessOf (k .object) p (firstOf 0 ns) ∷ restOf ns
+
+-- the header of a container with so many elements, these entries and this data
+unfoldable pub headerOf : ℕ → List Name → Bool → ℕ → List Entry → List ℕ → List ℕ
+headerOf floor ns object n es body =
     let sorted = sort ns es in
-    cond object (objectHeader floor (idsOf sorted) (offsetsOf sorted) size) (listHeader floor (offsetsOf es) size)
+    cond object (objectHeader floor (idsOf sorted) (offsetsOf sorted) (length body)) (listHeader floor (startsIn n 0 body) (length body))
 
 -- ---- what a call that is carried out does
 
-abbrev pub with : Machine → List ℕ → List Name → List Entry → List Container → Machine
-with m bs ns es ks =
-    record { bytes = bs; names = ns; entries = es; conts = ks; unique = m .unique; finished = m .finished; floor = m .floor }
+abbrev pub with : Machine → List ℕ → List Name → List Entry → List Container → List ℕ → Machine
+with m bs ns es ks cs =
+    record { bytes = bs; names = ns; entries = es; conts = ks; elements = cs; unique = m .unique; finished = m .finished; floor = m .floor }
 
 abbrev pub uniqueAt : Machine → List Container → Bool
 uniqueAt m [] = m .unique
@@ -92,22 +121,23 @@ abbrev pub closeAt : Machine → List Container → Machine
 closeAt m [] = m
 closeAt m (k ∷ ks) =
     let body = drop (k .value) (m .bytes) in
-    with m (take (k .value) (m .bytes) ++ (headerOf (m .floor) (m .names) (k .object) (drop (k .entries) (m .entries)) (length body) ++ body)) (m .names)
-    (take (k .entries) (m .entries)) ks
+    with m (take (k .value) (m .bytes) ++ (headerOf (m .floor) (m .names) (k .object) (firstOf 0 (m .elements)) (drop (k .entries) (m .entries)) body ++ body)) (m .names)
+    (take (k .entries) (m .entries)) ks (restOf (m .elements))
 
 abbrev pub rollAt : Machine → List Container → Machine
 rollAt m [] = m
-rollAt m (k ∷ ks) = with m (take (k .value) (m .bytes)) (take (k .names) (m .names)) (undo ks (k .parent) (take (k .entries) (m .entries))) ks
+rollAt m (k ∷ ks) =
+    with m (take (k .value) (m .bytes)) (take (k .names) (m .names)) (undo ks (k .parent) (take (k .entries) (m .entries))) ks (oneLess ks (k .parent) (restOf (m .elements)))
 
 abbrev pub markAt : Bool → List Container → List Container
 markAt u [] = []
 markAt u (k ∷ ks) = withUnique k u ∷ ks
 
 unfoldable pub apply : Machine → Call → Machine
-apply m (register n) = with m (m .bytes) (withName (m .names) (some n)) (m .entries) (m .conts)
+apply m (register n) = with m (m .bytes) (withName (m .names) (some n)) (m .entries) (m .conts) (m .elements)
 apply m (append nm x) =
     let ns = withName (m .names) nm in
-    with m (m .bytes ++ scalarBytes (scalarOf x)) ns (note ns (m .conts) nm (length (m .bytes)) (m .entries)) (m .conts)
+    with m (m .bytes ++ scalarBytes (scalarOf x)) ns (note ns (m .conts) nm (length (m .bytes)) (m .entries)) (m .conts) (oneMore (m .conts) (m .elements))
 apply m (openIn nm object) =
     let ns = withName (m .names) nm in
     let es = note ns (m .conts) nm (length (m .bytes)) (m .entries) in
@@ -120,12 +150,12 @@ apply m (openIn nm object) =
       parent = linkOf ns (m .conts) nm (m .entries);
       object = object;
       unique = uniqueAt m (m .conts);
-    } ∷ m .conts)
+    } ∷ m .conts) (0 ∷ oneMore (m .conts) (m .elements))
 apply m close = closeAt m (m .conts)
 apply m rollBack = rollAt m (m .conts)
-apply m (uniqueness u) = with m (m .bytes) (m .names) (m .entries) (markAt u (m .conts))
+apply m (uniqueness u) = with m (m .bytes) (m .names) (m .entries) (markAt u (m .conts)) (m .elements)
 apply m (finish out) =
-    record { bytes = m .bytes; names = m .names; entries = m .entries; conts = m .conts; unique = m .unique; finished = true; floor = m .floor }
+    record { bytes = m .bytes; names = m .names; entries = m .entries; conts = m .conts; elements = m .elements; unique = m .unique; finished = true; floor = m .floor }
 
 -- ---- rows 2 to 16 of the table
 
@@ -149,7 +179,7 @@ liveAt m (some n) (k ∷ ks) =
     ltb (place n (m .names)) (length (m .names)) && ltb (seek (place n (m .names)) es) (length es)
 
 abbrev pub noEntryFree : Machine → Lent → Option Name → Bool
-noEntryFree m lent nm = (anyOpen (m .conts) && not (liveAt m nm (m .conts))) && leb (roomFor (lent .entries)) (length (m .entries))
+noEntryFree m lent nm = (objectInner (m .conts) && not (liveAt m nm (m .conts))) && leb (roomFor (lent .entries)) (length (m .entries))
 
 -- n bytes do not fit
 abbrev pub tooLong : Machine → Lent → ℕ → Bool
@@ -157,7 +187,7 @@ tooLong m lent n = not (fits (length (m .bytes)) n (lent .value))
 
 abbrev pub headerAt : Machine → List Container → List ℕ
 headerAt m [] = []
-headerAt m (k ∷ ks) = headerOf (m .floor) (m .names) (k .object) (drop (k .entries) (m .entries)) (length (m .bytes) - k .value)
+headerAt m (k ∷ ks) = headerOf (m .floor) (m .names) (k .object) (firstOf 0 (m .elements)) (drop (k .entries) (m .entries)) (drop (k .value) (m .bytes))
 
 -- append's, before and behind the scalar's own
 abbrev pub frontAt : Machine → Option Name → List Row
@@ -203,23 +233,31 @@ Rising [] value names text entries = Unit {0}
 Rising (k ∷ ks) value names text entries =
     (k .value ≤ value) × (k .names ≤ names) × (k .text ≤ text) × (k .entries ≤ entries) × Rising ks (k .value) (k .names) (k .text) (k .entries)
 
--- the innermost's entries are well placed, and its text mark is that of its names
+-- no list counts more than its data bytes, which run to `end`, plus one for a child open in it; there are no other counts
+abbrev pub Counting : List Container → List ℕ → ℕ → ℕ → Type 0
+Counting [] ns end child = ns ≡ []
+Counting (k ∷ ks) ns end child = (countable k (firstOf 0 ns) (end - k .value + child) ≡ true) × Counting ks (restOf ns) (k .value) 1
+
+-- the innermost's entries are well placed, its text mark is that of its names, and a list's data is as many whole values as it counts
 abbrev pub InnerPlaced : Machine → List Container → Type 0
 InnerPlaced m [] = Unit {0}
 InnerPlaced m (k ∷ ks) =
-    (misplaced (k .object) (length (m .names)) (length (m .bytes) - k .value) (drop (k .entries) (m .entries)) ≡ false)
+    ((k .object && misplaced true (length (m .names)) (length (m .bytes) - k .value) (drop (k .entries) (m .entries))) ≡ false)
     × (k .text ≡ length (joined (take (k .names) (m .names))))
+    × ((not (k .object) && not (wholeValues (firstOf 0 (m .elements)) (drop (k .value) (m .bytes)))) ≡ false)
 
--- its parent's too, and it has its own entry among them
+-- its parent's too, and it has its own entry among them, or is one of a list's elements
 abbrev pub ParentPlaced : Machine → List Container → Type 0
 ParentPlaced m [] = Unit {0}
 ParentPlaced m (k ∷ []) = Unit {0}
 ParentPlaced m (k ∷ (p ∷ ks)) =
     let es = take (k .entries - p .entries) (drop (p .entries) (m .entries)) in
-    (misplaced (p .object) (length (m .names)) (k .value - p .value) es ≡ false) × (orphaned (k .parent) (p .object) (k .value - p .value) es ≡ false)
+    ((p .object && misplaced true (length (m .names)) (k .value - p .value) es) ≡ false)
+    × (orphaned (k .parent) (p .object) (firstOf 0 (restOf (m .elements))) (k .value - p .value) es ≡ false)
 
 pub record Orderly (m : Machine) : Type 0 where
   pub rising : Rising (m .conts) (length (m .bytes)) (length (m .names)) (length (joined (m .names))) (length (m .entries))
+  pub counting : Counting (m .conts) (m .elements) (length (m .bytes)) 0
   pub depth : length (m .conts) ≤ 64
   pub inner : InnerPlaced m (m .conts)
   pub parent : ParentPlaced m (m .conts)

@@ -14,8 +14,9 @@ use Rattle.container.specs.Layout.{listHeaderAt, listHeader, objectHeaderAt, la
 use Rattle.container.specs.Entries.{entriesOf, putEntries, seek, misplaced}
 use Rattle.container.specs.Sort.{insert, sort}
 use Rattle.container.specs.Close.{fronted}
+use Rattle.measure.specs.Measure.{containerLength, valueLength, measured, wholeValues, startsIn}
 use Rattle.semantics.specs.Record.{rising, chained}
-use Rattle.semantics.specs.Damage.{overUsed, unchained, badFloor, fallenEnds, misplacedInner, misplacedParent, damagedParent}
+use Rattle.semantics.specs.Damage.{overUsed, unchained, badFloor, fallenEnds, misplacedInner, misplacedParent, uncounted, damagedParent}
 use Rattle.semantics.specs.Table.{header, numberOf}
 use Rattle.semantics.specs.Step.{registered, appended, opened, newContainer, entriesClosed, closed, rolledBack, finished, dictionaryOf, after, step}
 use Rattle.semantics.specs.Step as steps
@@ -27,5 +28,5 @@ use Rattle.semantics.specs.Run.{run, accountAfter, refused, valueBytes, 
 use Rattle.semantics.specs.Outcomes.{outcomes, encoded, sameNames, accounted, gives, allGive}
 
 pub outcomes-hold : allGive outcomes ≡ true
-unfolding width widthAt le les number twos whole table follow rest utf8 write shift scalarBytes cuts namesOf risen intact same place below joined endsFrom laidOut dictionary ascending sorted listHeaderAt listHeader objectHeaderAt largest objectHeader entriesOf putEntries seek misplaced insert sort fronted overUsed rising chained unchained badFloor fallenEnds misplacedInner misplacedParent damagedParent header first numberOf registered appended opened newContainer entriesClosed closed rolledBack finished dictionaryOf after step steps.withUnique run valueBytes dictionaryBytes numbers namesIn dictionaryNames runNames refused historyFrom historyOf kept withName unlive replace snoc entered enter closeLevel dropLevel accepted fed dataOf startsFrom withField fieldsFrom listBytes objectBytes encode partsOf itemCount liveIds isLive noLedger addTo total headerSize ledger.sumsEntered ledgerAfter marksAfter entriesUsed refusalOf accountAfter accounted outcomes encoded sameNames gives allGive
+unfolding width widthAt le les number twos whole table follow rest utf8 write shift scalarBytes cuts namesOf risen intact same place below joined endsFrom laidOut dictionary ascending sorted listHeaderAt listHeader objectHeaderAt largest objectHeader entriesOf putEntries seek misplaced insert sort fronted overUsed rising chained unchained badFloor fallenEnds misplacedInner misplacedParent uncounted damagedParent containerLength valueLength measured wholeValues startsIn header first numberOf registered appended opened newContainer entriesClosed closed rolledBack finished dictionaryOf after step steps.withUnique run valueBytes dictionaryBytes numbers namesIn dictionaryNames runNames refused historyFrom historyOf kept withName unlive replace snoc entered enter closeLevel dropLevel accepted fed dataOf startsFrom withField fieldsFrom listBytes objectBytes encode partsOf itemCount liveIds isLive noLedger addTo total headerSize ledger.sumsEntered ledgerAfter marksAfter entriesUsed refusalOf accountAfter accounted outcomes encoded sameNames gives allGive
 outcomes-hold = refl

@@ -4,13 +4,13 @@ use mathlib.Core.Path.{_≡_, refl, sym, _∙_, ap}
 use mathlib.Core.Bool.{Bool, true, false, cond, not, _&&_, _||_, and-eq-true-iff, true≢false}
 use mathlib.Core.List.{List, [], _∷_, _++_, append-assoc}
 use mathlib.Core.Option.{Option, none, some}
-use Prim.Native.Nat.{ℕ, zero, suc, _+_, _-_, _*_, _^_, _≤_, _<_}
-use native.Mathlib.Nat.{zero-add}
+use Prim.Native.Nat.{ℕ, suc, _+_, _-_, _*_, _^_, _≤_, _<_}
+use native.Mathlib.Nat.{add-zero, zero-add}
 use native.Mathlib.Omega.{arith}
 use lib.Dec.{eqb, leb, ltb}
 use lib.ListN.{drop, getD, length, length-append, length-drop, length-set, set, take, take-append-drop}
 use lib.Seq.{length-take-le, take-take}
-use borrow.Author.Tests.{leb-true, leb-false, le-leb, lt-ltb, le-ltb, ltb-true, ltb-false, not-false, ne-eqb}
+use borrow.Author.Tests.{leb-true, leb-false, le-leb, lt-ltb, le-ltb, ltb-true, ltb-false, not-false}
 use Rattle.encoding.specs.Rows.{Row, row, first, testOf}
 use Rattle.encoding.specs.Slices.{counted, fits, write}
 use Rattle.encoding.proofs.SliceLaws.{length-write}
@@ -22,26 +22,28 @@ use Rattle.metadata.specs.Calls.{hasRoom, added}
 use Rattle.metadata.proofs.BytesLaws.{intact-parts, dictionary-size, dictionary-read, size-least}
 use Rattle.metadata.proofs.DictionaryLaws.{Kept, place-low, place-added, kept-fresh, kept-added, kept-back, room}
 use Rattle.container.specs.declared.Entry.{Entry}
-use Rattle.container.specs.Entries.{entriesOf, entryAt, misplaced, putEntries, roomFor, seek, setEntry}
+use Rattle.container.specs.Entries.{entriesOf, entryAt, idsOf, misplaced, offsetsOf, putEntries, roomFor, seek, setEntry}
 use Rattle.container.proofs.EntryLaws.{length-set-entry, length-put, entry-of, seeks, fronted-end, length-fronted}
 use Rattle.container.specs.Close.{fronted}
+use Rattle.container.specs.Layout.{listHeader, objectHeader}
 use Rattle.container.specs.Sort.{sort}
+use Rattle.measure.specs.Measure.{startsIn, wholeValues}
 use Rattle.semantics.specs.declared.Container.{Container}
 use Rattle.semantics.specs.declared.Counts.{Counts}
 use Rattle.semantics.specs.declared.ParentEntry.{ParentEntry}
 use Rattle.semantics.specs.declared.ParentEntry.the-variants.{New, Replaced}
 use Rattle.semantics.specs.declared.View.{View}
-use Rattle.semantics.specs.Record.{Storage, State, Scalars, Call, register, append, openIn, close, rollBack, uniqueness, finish, scalarOf, goodFloor, viewOf, isOpen, inObject, innerSize, innerEntries, parentEntries, namesHeld, uniqueNow}
-use Rattle.semantics.specs.Damage.{overUsed, unchained, badFloor, fallenEnds, misplacedInner, misplacedParent, orphaned, damagedParent, misreadBy, misread, damaged}
+use Rattle.semantics.specs.Record.{Storage, State, Scalars, Call, register, append, openIn, close, rollBack, uniqueness, finish, scalarOf, goodFloor, noContainer, countable, viewOf, isOpen, inObject, inList, innerSize, innerData, innerEntries, parentEntries, namesHeld, uniqueNow}
+use Rattle.semantics.specs.Damage.{overUsed, unchained, badFloor, fallenEnds, misplacedInner, misplacedParent, uncounted, orphaned, damagedParent, misreadBy, misread, damaged}
 use Rattle.semantics.specs.Table.{scalarRows, rows, numberOf, misnamed, badName, idOf, held, live, liveUnder, namesFull, entriesFull, tooLong as tooLongFor, header}
-use Rattle.semantics.specs.Step.{dictionaryWith, textWith, endsWith, idFor, entriesWith, countWith, parentWith, registered, appended, opened, newContainer, entriesClosed, closed, entriesBack, countBack, rolledBack, finished, dictionaryOf, after}
+use Rattle.semantics.specs.Step.{dictionaryWith, textWith, endsWith, idFor, entriesWith, countWith, parentWith, registered, appended, opened, newContainer, entriesClosed, closed, entriesBack, countBack, rolledBack, finished, dictionaryOf, elementsWith, elementsBack, elementsAfter, after}
 use Rattle.semantics.specs.Step as step
 use Rattle.semantics.specs.History.{withName}
 use Rattle.semantics.specs.Ledger.{fullFor}
 use Rattle.semantics.specs.Run.{Fresh, floorOf, lentBy, valueBytes}
 use Rattle.semantics.proofs.Demand1.{none-at, append-at}
-use Rattle.semantics.proofs.Machine.{Machine, put, find, note, noteIn, linkOf, linkIn, undo, headerOf, closeAt, rollAt, markAt, apply, uniqueAt, anyOpen, objectInner, misnamedAt, liveAt, noEntryFree, tooLong, headerAt, numberAt, Rising, InnerPlaced, ParentPlaced, Orderly}
-use Rattle.semantics.proofs.StorageLaws.{not-ltb, take-write, drop-write, seek-high, put-new, find-new, find-there, Used, used-count, used-from, used-between, used-cut, used-moved, used-added, used-kept, stackOf, topOf, nextOf, length-stack, stack-top, stack-next, stack-set, stack-pop, stack-chained}
+use Rattle.semantics.proofs.Machine.{Machine, put, find, note, noteIn, linkOf, linkIn, undo, firstOf, restOf, oneMore, lessOf, oneLess, headerOf, closeAt, rollAt, markAt, apply, uniqueAt, anyOpen, objectInner, misnamedAt, liveAt, noEntryFree, tooLong, headerAt, numberAt, Rising, Counting, InnerPlaced, ParentPlaced, Orderly}
+use Rattle.semantics.proofs.StorageLaws.{not-ltb, take-write, drop-write, seek-high, put-new, find-new, find-there, Used, used-count, used-from, used-between, used-cut, used-moved, used-added, used-kept, stackOf, topOf, nextOf, length-stack, stack-top, stack-next, stack-rest, stack-first, stack-set, stack-renew, stack-chained}
 
 -- ---- what is represented
 
@@ -56,34 +58,44 @@ pub record Stored (c : Counts) (l : Storage) (m : Machine) : Type 0 where
   pub finished : c .finished ≡ m .finished
   pub floor : c .floor ≡ m .floor
 
--- by a state: the open containers too, the innermost first
+-- by a state: the open containers and their elements too, the innermost first
 pub record Represents (s : State) (m : Machine) : Type 0 where
   pub stored : Stored (s .builder .counts) (s .storage) m
-  pub stack : stackOf (s .builder .containers) (s .builder .counts .depth) ≡ m .conts
+  pub stack : stackOf noContainer (s .builder .containers) (s .builder .counts .depth) ≡ m .conts
+  pub elements : stackOf 0 (s .builder .elements) (s .builder .counts .depth) ≡ m .elements
   pub size : length (s .builder .containers) ≡ 64
+  pub sizes : length (s .builder .elements) ≡ 64
 
 -- by what a call sees
 pub record Sees (v : View) (l : Storage) (m : Machine) : Type 0 where
   pub stored : Stored (v .counts) l m
   pub depth : v .counts .depth ≡ length (m .conts)
   pub inner : v .inner ≡ topOf (m .conts)
+  pub elements : v .elements ≡ firstOf 0 (m .elements)
   pub parent : v .parent ≡ nextOf (m .conts)
+  pub siblings : v .siblings ≡ firstOf 0 (restOf (m .elements))
   pub chain : v .chain ≡ true
 
 pub represents-depth : {s : State} {m : Machine} → Represents s m → s .builder .counts .depth ≡ length (m .conts)
-represents-depth {s} r = sym (length-stack (s .builder .containers) (s .builder .counts .depth)) ∙ ap length (r .stack)
+represents-depth {s} r = sym (length-stack noContainer (s .builder .containers) (s .builder .counts .depth)) ∙ ap length (r .stack)
 
 -- what a call sees of a state that represents m
 pub sees : {s : State} {m : Machine} → Represents s m → Orderly m → Sees (viewOf (s .builder)) (s .storage) m
 sees {s} {m} r o =
     let ks = s .builder .containers in
+    let ns = s .builder .elements in
     let d = s .builder .counts .depth in
+    let k = o .depth in
+    let e = represents-depth r in
     record {
       stored = r .stored;
-      depth = represents-depth r;
-      inner = stack-top ks d ∙ ap topOf (r .stack);
-      parent = stack-next ks d ∙ ap nextOf (r .stack);
-      chain = (let k = o .depth in let e = represents-depth r in stack-chained ks d (length (m .bytes)) (length (m .names)) (length (joined (m .names))) (length (m .entries)) (rw (r .stack) (o .rising)) (omega arith));
+      depth = e;
+      inner = stack-top noContainer ks d ∙ ap topOf (r .stack);
+      elements = stack-top 0 ns d ∙ ap (firstOf 0) (r .elements);
+      parent = stack-next noContainer ks d ∙ ap nextOf (r .stack);
+      siblings = stack-next 0 ns d ∙ ap (λ (z : List ℕ). firstOf 0 (restOf z)) (r .elements);
+      chain = stack-chained ks ns d (length (m .bytes)) (length (m .names)) (length (joined (m .names))) (length (m .entries)) 0 (rw (r .stack) (o .rising)) (rw (r .stack, r .elements) (o .counting))
+          (omega arith);
     }
 
 -- ---- what a call reads is the machine's
@@ -146,9 +158,15 @@ module _ {v : View} {l : Storage} {m : Machine} (s : Sees v l m) where
   live-law none = refl
   live-law (some n) = (λ i. open-law i && (held-law n i && ltb (seek (id-law n i) (entries-law i)) (length (entries-law i)))) ∙ live-stack m n (m .conts)
 
-  header-law : header v l ≡ headerOf (m .floor) (m .names) (topOf (m .conts) .object) (drop (topOf (m .conts) .entries) (m .entries)) (length (m .bytes) - topOf (m .conts) .value)
+  data-law : innerData v l ≡ drop (topOf (m .conts) .value) (m .bytes)
+  data-law i = drop (s .inner i .value) (s .stored .bytes i)
+
+  header-law : header v l ≡ headerOf (m .floor) (m .names) (topOf (m .conts) .object) (firstOf 0 (m .elements)) (drop (topOf (m .conts) .entries) (m .entries)) (drop (topOf (m .conts) .value) (m .bytes))
   unfolding header headerOf
-  header-law i = headerOf (s .stored .floor i) (names-law i) (s .inner i .object) (entries-law i) (size-law i)
+  header-law =
+      let size : innerSize v ≡ length (drop (topOf (m .conts) .value) (m .bytes)) = size-law ∙ sym (length-drop (topOf (m .conts) .value) (m .bytes)) in
+      λ i. let sorted = sort (names-law i) (entries-law i) in
+      cond (s .inner i .object) (objectHeader (s .stored .floor i) (idsOf sorted) (offsetsOf sorted) (size i)) (listHeader (s .stored .floor i) (startsIn (s .elements i) 0 (data-law i)) (size i))
 
   -- the rows' tests
   misnamed-law : (nm : Option Name) → misnamed nm v ≡ misnamedAt nm (m .conts)
@@ -162,7 +180,7 @@ module _ {v : View} {l : Storage} {m : Machine} (s : Sees v l m) where
       ∙ ap (λ t. t && not (ltb (length (m .names)) (length (l .ends)) && fits (length (joined (m .names))) (length n) (length (l .text)))) (not-ltb (place n (m .names)) (length (m .names)))
 
   free-law : (nm : Option Name) → entriesFull v l nm ≡ noEntryFree m (lentBy l) nm
-  free-law nm i = (open-law i && not (live-law nm i)) && leb (roomFor (length (l .entries))) (count-law i)
+  free-law nm i = (in-law i && not (live-law nm i)) && leb (roomFor (length (l .entries))) (count-law i)
 
 -- ---- number 1 does not come
 
@@ -201,8 +219,14 @@ module _ {v : View} {l : Storage} {m : Machine} (s : Sees v l m) (o : Orderly m)
       let x2 = le-leb (k .names) (length (m .names)) (w .names) in
       let x3 = le-leb (k .text) (length (joined (m .names))) (w .text) in
       let x4 = le-leb (k .entries) (length (m .entries)) (w .entries) in
-      (λ i. not (s .chain i && (leb (s .inner i .value) (s .stored .value i) && (leb (s .inner i .names) (many-law s i) && (leb (s .inner i .text) (text-law s i) && leb (s .inner i .entries) (count-law s i))))))
-      ∙ (λ i. not (x1 i && (x2 i && (x3 i && x4 i))))
+      let x5 = go (m .conts) (o .counting) in
+      (λ i. not (s .chain i && (leb (s .inner i .value) (s .stored .value i) && (leb (s .inner i .names) (many-law s i) && (leb (s .inner i .text) (text-law s i) && (leb (s .inner i .entries) (count-law s i)
+      && countable (s .inner i) (s .elements i) (size-law s i)))))))
+      ∙ (λ i. not (x1 i && (x2 i && (x3 i && (x4 i && x5 i)))))
+    where
+      go : (ks : List Container) → Counting ks (m .elements) (length (m .bytes)) 0 → countable (topOf ks) (firstOf 0 (m .elements)) (length (m .bytes) - topOf ks .value) ≡ true
+      go [] c = rw c (le-leb 0 (length (m .bytes) - 0) (omega arith))
+      go (k ∷ ks) c = rw add-zero at (c .0)
 
   floor-none : badFloor v ≡ false
   unfolding badFloor
@@ -214,12 +238,20 @@ module _ {v : View} {l : Storage} {m : Machine} (s : Sees v l m) (o : Orderly m)
 
   inner-none : misplacedInner v l ≡ false
   unfolding misplacedInner
-  inner-none = (λ i. open-law s i && misplaced (s .inner i .object) (many-law s i) (size-law s i) (entries-law s i)) ∙ go (m .conts) (o .inner)
+  inner-none = (λ i. in-law s i && misplaced true (many-law s i) (size-law s i) (entries-law s i)) ∙ go (m .conts) (o .inner)
     where
       go : (ks : List Container) → InnerPlaced m ks
-          → (anyOpen ks && misplaced (topOf ks .object) (length (m .names)) (length (m .bytes) - topOf ks .value) (drop (topOf ks .entries) (m .entries))) ≡ false
+          → (objectInner ks && misplaced true (length (m .names)) (length (m .bytes) - topOf ks .value) (drop (topOf ks .entries) (m .entries))) ≡ false
       go [] h = refl
       go (k ∷ ks) h = h .0
+
+  whole-none : uncounted v l ≡ false
+  unfolding uncounted
+  whole-none = (λ i. (open-law s i && not (s .inner i .object)) && not (wholeValues (s .elements i) (data-law s i))) ∙ go (m .conts) (o .inner)
+    where
+      go : (ks : List Container) → InnerPlaced m ks → ((anyOpen ks && not (topOf ks .object)) && not (wholeValues (firstOf 0 (m .elements)) (drop (topOf ks .value) (m .bytes)))) ≡ false
+      go [] h = refl
+      go (k ∷ ks) h = h .2
 
   parent-entries : parentEntries v l ≡ take (topOf (m .conts) .entries - nextOf (m .conts) .entries) (drop (nextOf (m .conts) .entries) (m .entries))
   parent-entries =
@@ -230,13 +262,13 @@ module _ {v : View} {l : Storage} {m : Machine} (s : Sees v l m) (o : Orderly m)
   parent-none : damagedParent v l ≡ false
   unfolding damagedParent misplacedParent
   parent-none =
-      (λ i. ltb 1 (s .depth i) && (misplaced (s .parent i .object) (many-law s i) (s .inner i .value - s .parent i .value) (parent-entries i)
-      || orphaned (s .inner i .parent) (s .parent i .object) (s .inner i .value - s .parent i .value) (parent-entries i)))
+      (λ i. ltb 1 (s .depth i) && ((s .parent i .object && misplaced true (many-law s i) (s .inner i .value - s .parent i .value) (parent-entries i))
+      || orphaned (s .inner i .parent) (s .parent i .object) (s .siblings i) (s .inner i .value - s .parent i .value) (parent-entries i)))
       ∙ go (m .conts) (o .parent)
     where
       go : (ks : List Container) → ParentPlaced m ks → let es = take (topOf ks .entries - nextOf ks .entries) (drop (nextOf ks .entries) (m .entries)) in
-          (ltb 1 (length ks) && (misplaced (nextOf ks .object) (length (m .names)) (topOf ks .value - nextOf ks .value) es
-          || orphaned (topOf ks .parent) (nextOf ks .object) (topOf ks .value - nextOf ks .value) es)) ≡ false
+          (ltb 1 (length ks) && ((nextOf ks .object && misplaced true (length (m .names)) (topOf ks .value - nextOf ks .value) es)
+          || orphaned (topOf ks .parent) (nextOf ks .object) (firstOf 0 (restOf (m .elements))) (topOf ks .value - nextOf ks .value) es)) ≡ false
       go [] h = refl
       go (k ∷ []) h = refl
       go (k ∷ (p ∷ ks)) h = rw (lt-ltb 1 (suc (suc (length ks))) (omega arith)) (neither _ _ (h .0) (h .1))
@@ -249,7 +281,7 @@ module _ {v : View} {l : Storage} {m : Machine} (s : Sees v l m) (o : Orderly m)
   misread-none (register n) = ends-none
   misread-none (append nm x) = named-none nm
   misread-none (openIn nm k) = named-none nm
-  misread-none close = neither _ _ ends-none inner-none
+  misread-none close = neither _ _ ends-none (neither _ _ inner-none whole-none)
   misread-none rollBack = parent-none
   misread-none (uniqueness u) = refl
   misread-none (finish out) = ends-none
@@ -290,7 +322,7 @@ module _ {v : View} {l : Storage} {m : Machine} (s : Sees v l m) (o : Orderly m)
       rest t u = row 2 (m .finished) ∷ (row 3 (not t) ∷ (row 14 u ∷ []))
 
       go : (ks : List Container) → let es = drop (topOf ks .entries) (m .entries) in
-          first (rest (anyOpen ks) (tooLong m (lentBy l) (length (headerOf (m .floor) (m .names) (topOf ks .object) es (length (m .bytes) - topOf ks .value)))))
+          first (rest (anyOpen ks) (tooLong m (lentBy l) (length (headerOf (m .floor) (m .names) (topOf ks .object) (firstOf 0 (m .elements)) es (drop (topOf ks .value) (m .bytes))))))
           ≡ first (rest (anyOpen ks) (tooLong m (lentBy l) (length (headerAt m ks))))
       go [] = refl
       go (k ∷ ks) = refl
@@ -389,15 +421,14 @@ module _ (m : Machine) (k : Container) (ks : List Container) (n : Name) (p : Inn
 module _ {l : List ℕ} {c : ℕ} (m : Machine) (u : Used l c (m .entries)) where
   -- the entries with one more or one moved
   note-law : (nm : Option Name) (ks : List Container) → InnerPlaced m ks → topOf ks .entries ≤ c → misnamedAt nm ks ≡ false
-      → ((anyOpen ks && not (liveAt m nm ks)) && leb (roomFor (length l)) c) ≡ false → let es = drop (topOf ks .entries) (m .entries) in
-      Used (entriesFor l c (anyOpen ks) (liveAt m nm ks) (idAt m nm) (topOf ks .entries) (length (m .bytes) - topOf ks .value) es) (cond (anyOpen ks && not (liveAt m nm ks)) (c + 1) c)
+      → ((objectInner ks && not (liveAt m nm ks)) && leb (roomFor (length l)) c) ≡ false → let es = drop (topOf ks .entries) (m .entries) in
+      Used (entriesFor l c (objectInner ks) (liveAt m nm ks) (idAt m nm) (topOf ks .entries) (length (m .bytes) - topOf ks .value) es) (cond (objectInner ks && not (liveAt m nm ks)) (c + 1) c)
       (note (withName (m .names) nm) ks nm (length (m .bytes)) (m .entries))
   unfolding note noteIn
   note-law none [] p w h f = u
   note-law (some n) [] p w h f = u
-  note-law none (k ∷ ks) p w h f =
-      rw (← append-assoc, take-append-drop) (used-added u (record { id = 0; offset = length (m .bytes) - k .value }) (leb-false (roomFor (length l)) c f))
-  note-law (some n) (k ∷ ks) p w h f = rw place-with (go (liveAt m (some n) (k ∷ ks)) refl f)
+  note-law none (k ∷ ks) p w h f = rw (h, take-append-drop) u
+  note-law (some n) (k ∷ ks) p w h f = rw (place-with, not-false (k .object) h) (go (liveAt m (some n) (k ∷ ks)) refl (rw (not-false (k .object) h) at f))
     where
       es : List Entry
       es = drop (k .entries) (m .entries)
@@ -461,11 +492,11 @@ module _ {v : View} {l : Storage} {m : Machine} (s : Sees v l m) (o : Orderly m)
       let w = low s o in
       let c = count-law s in
       let g = note-law m (used s) nm (m .conts) (o .inner) (omega arith) named-at (rw c (sym (free-law s nm) ∙ f)) in
-      used-by (λ i. entriesFor (l .entries) (v .counts .entries) (open-law s i) (live-law s nm i) (fresh-id i) (s .inner i .entries) (size-law s i) (entries-law s i))
-      (λ i. cond (open-law s i && not (live-law s nm i)) (v .counts .entries + 1) (v .counts .entries)) g
+      used-by (λ i. entriesFor (l .entries) (v .counts .entries) (in-law s i) (live-law s nm i) (fresh-id i) (s .inner i .entries) (size-law s i) (entries-law s i))
+      (λ i. cond (in-law s i && not (live-law s nm i)) (v .counts .entries + 1) (v .counts .entries)) g
 
   entries-size : length (entriesWith v l nm) ≡ length (l .entries)
-  entries-size = note-size (l .entries) (v .counts .entries) (isOpen v) (liveUnder v l nm) (idFor v l nm) (v .inner .entries) (innerSize v) (innerEntries v l)
+  entries-size = note-size (l .entries) (v .counts .entries) (inObject v) (liveUnder v l nm) (idFor v l nm) (v .inner .entries) (innerSize v) (innerEntries v l)
 
   parent-with : parentWith v l nm ≡ linkOf (withName (m .names) nm) (m .conts) nm (m .entries)
   parent-with =
@@ -549,17 +580,20 @@ back-for v l New = refl
 back-for v l (Replaced id o) = refl
 
 -- the parent's entries without the child's own; j is the parent's mark, k the child's
-back-law : {l : List ℕ} {n : ℕ} {es : List Entry} (u : Used l n es) (p : ParentEntry) (object : Bool) (size k : ℕ) (parent : Container) (js : List Container) → let j = parent .entries in
-    j ≤ k → k ≤ n → orphaned p object size (take (k - j) (drop j es)) ≡ false → Used (backFor l p j (take (k - j) (drop j es))) (countBack k p) (undo (parent ∷ js) p (take k es))
+back-law : {l : List ℕ} {n : ℕ} {es : List Entry} (u : Used l n es) (p : ParentEntry) (count size k : ℕ) (parent : Container) (js : List Container) → let j = parent .entries in
+    j ≤ k → k ≤ n → orphaned p (parent .object) count size (take (k - j) (drop j es)) ≡ false
+    → Used (backFor l p j (take (k - j) (drop j es))) (countBack (parent .object) k p) (undo (parent ∷ js) p (take k es))
 unfolding undo
-back-law u New object size k parent js g h f =
-    let c = used-cut u k h in
-    rw (used-count c) (used-cut c (k - 1) (omega arith))
-back-law {es = es} u (Replaced i o) object size k parent js g h f =
+back-law {l = l} {es = es} u New count size k parent js g h f = go (parent .object)
+  where
+    go : (t : Bool) → Used l (cond t (k - 1) k) (cond t (take (length (take k es) - 1) (take k es)) (take k es))
+    go true = let c = used-cut u k h in rw (used-count c) (used-cut c (k - 1) (omega arith))
+    go false = used-cut u k h
+back-law {es = es} u (Replaced i o) count size k parent js g h f =
     let j = parent .entries in
     let c = used-cut u k h in
     let e : take (k - j) (drop j es) ≡ drop j (take k es) = sym (used-between u j k h) ∙ used-from c j in
-    let x : ltb (seek i (take (k - j) (drop j es))) (length (take (k - j) (drop j es))) ≡ true = found object _ (ltb size o) f in
+    let x : ltb (seek i (take (k - j) (drop j es))) (length (take (k - j) (drop j es))) ≡ true = found (parent .object) _ (ltb size o) f in
     rw e (used-moved c i o j g (ltb-true _ _ (rw e at x)))
   where
     found : (object t u : Bool) → (not object || (not t || u)) ≡ false → t ≡ true
@@ -596,8 +630,7 @@ module _ {v : View} {l : Storage} {m : Machine} (s : Sees v l m) (o : Orderly m)
       let t = s .stored in
       let i : Innermost k = rw (ap topOf e) at innermost-law in
       let room = fits-law s (length (header v l)) f in
-      let size : length (m .bytes) - k .value ≡ length (drop (k .value) (m .bytes)) = sym (length-drop (k .value) (m .bytes)) in
-      let hl : header v l ≡ headerOf (m .floor) (m .names) (k .object) (drop (k .entries) (m .entries)) (length (drop (k .value) (m .bytes))) = rw (← size) (rw (ap topOf e) at (header-law s)) in
+      let hl : header v l ≡ headerOf (m .floor) (m .names) (k .object) (firstOf 0 (m .elements)) (drop (k .entries) (m .entries)) (drop (k .value) (m .bytes)) = rw (ap topOf e) at (header-law s) in
       let b : take (v .inner .value) (l .value) ≡ take (v .inner .value) (m .bytes) = before-mark (v .inner .value) (v .counts .value) (l .value) (m .bytes) (t .bytes) (i .value) in
       let r : v .counts .value + length (header v l) ≤ length (l .value) = omega arith in
       let all : take (v .counts .value + length (header v l)) (fronted (v .inner .value) (v .counts .value) (header v l) (l .value)) ≡ closeAt m (k ∷ ks) .bytes =
@@ -616,13 +649,13 @@ module _ {v : View} {l : Storage} {m : Machine} (s : Sees v l m) (o : Orderly m)
       }
 
   roll-entries : (k : Container) (ks : List Container) → m .conts ≡ k ∷ ks → let below = ltb 1 (v .counts .depth) in
-      Used (cond below (entriesBack v l (v .inner .parent)) (l .entries)) (cond below (countBack (v .inner .entries) (v .inner .parent)) (v .inner .entries)) (undo ks (k .parent) (take (k .entries) (m .entries)))
+      Used (cond below (entriesBack v l (v .inner .parent)) (l .entries)) (cond below (countBack (v .parent .object) (v .inner .entries) (v .inner .parent)) (v .inner .entries)) (undo ks (k .parent) (take (k .entries) (m .entries)))
   unfolding undo
   roll-entries k [] e =
       let i : Innermost k = rw (ap topOf e) at innermost-law in
       let below : ltb 1 (v .counts .depth) ≡ false = ap (ltb 1) (s .depth ∙ ap length e) in
       let h : k .entries ≤ v .counts .entries = rw (i .is) at (i .entries) in
-      used-by (λ z. cond (below z) (entriesBack v l (v .inner .parent)) (l .entries)) (λ z. cond (below z) (countBack (v .inner .entries) (v .inner .parent)) (i .is z .entries)) (used-cut (used s) (k .entries) h)
+      used-by (λ z. cond (below z) (entriesBack v l (v .inner .parent)) (l .entries)) (λ z. cond (below z) (countBack (v .parent .object) (v .inner .entries) (v .inner .parent)) (i .is z .entries)) (used-cut (used s) (k .entries) h)
   roll-entries k (p ∷ ks) e =
       let i : Innermost k = rw (ap topOf e) at innermost-law in
       let h : k .entries ≤ v .counts .entries = rw (i .is) at (i .entries) in
@@ -633,8 +666,8 @@ module _ {v : View} {l : Storage} {m : Machine} (s : Sees v l m) (o : Orderly m)
       let rise : Rising (k ∷ (p ∷ ks)) (length (m .bytes)) (length (m .names)) (length (joined (m .names))) (length (m .entries)) = rw e at (o .rising) in
       let own : ParentPlaced m (k ∷ (p ∷ ks)) = rw e at (o .parent) in
       let back = back-for v l (v .inner .parent) ∙ (λ z. backFor (l .entries) (i .is z .parent) (par z .entries) (es z)) in
-      used-by (λ z. cond (below z) (back z) (l .entries)) (λ z. cond (below z) (countBack (i .is z .entries) (i .is z .parent)) (i .is z .entries))
-      (back-law (used s) (k .parent) (p .object) (k .value - p .value) (k .entries) p ks (rise .4 .3) h (own .1))
+      used-by (λ z. cond (below z) (back z) (l .entries)) (λ z. cond (below z) (countBack (par z .object) (i .is z .entries) (i .is z .parent)) (i .is z .entries))
+      (back-law (used s) (k .parent) (firstOf 0 (restOf (m .elements))) (k .value - p .value) (k .entries) p ks (rise .4 .3) h (own .1))
 
   roll-law : (js : List Container) → m .conts ≡ js → anyOpen js ≡ true → Stored (rolledBack v l .counts) (rolledBack v l .storage) (rollAt m js)
   unfolding rolledBack undo
@@ -677,7 +710,7 @@ back-size false p v l = refl
 
 -- a fresh builder represents the machine with nothing in it
 pub represents-fresh : (s : State) → Fresh (s .builder)
-    → Represents s (record { bytes = []; names = []; entries = []; conts = []; unique = s .builder .counts .unique; finished = false; floor = floorOf s })
+    → Represents s (record { bytes = []; names = []; entries = []; conts = []; elements = []; unique = s .builder .counts .unique; finished = false; floor = floorOf s })
 unfolding entriesOf stackOf
 represents-fresh s f =
     record {
@@ -692,7 +725,9 @@ represents-fresh s f =
         floor = refl;
       };
       stack = rw (f .depth);
+      elements = rw (f .depth);
       size = f .containers;
+      sizes = f .elements;
     }
 
 module _ {s : State} {m : Machine} (r : Represents s m) (o : Orderly m) where
@@ -720,13 +755,14 @@ module _ {s : State} {m : Machine} (r : Represents s m) (o : Orderly m) where
   some-open h = sym (open-law seen) ∙ not-false _ h
 
   -- the innermost is open no more
-  popped : (js : List Container) → m .conts ≡ js → anyOpen js ≡ true → (closeAt m js .conts ≡ stackOf (s .builder .containers) (s .builder .counts .depth - 1)) × (rollAt m js .conts ≡ stackOf (s .builder .containers) (s .builder .counts .depth - 1))
+  popped : (js : List Container) → m .conts ≡ js → anyOpen js ≡ true
+      → (stackOf noContainer (s .builder .containers) (s .builder .counts .depth - 1) ≡ closeAt m js .conts) × (stackOf noContainer (s .builder .containers) (s .builder .counts .depth - 1) ≡ rollAt m js .conts)
   popped [] e h = absurd (true≢false (sym h))
-  popped (k ∷ js) e h = let q = sym (stack-pop (s .builder .containers) (s .builder .counts .depth) k js (r .stack ∙ e)) in (q, q)
+  popped (k ∷ js) e h = let q = sym (stack-rest noContainer (s .builder .containers) (s .builder .counts .depth)) ∙ ap restOf (r .stack ∙ e) in (q, q)
 
   -- or has another mark
   remarked : (u : Bool) (js : List Container) → m .conts ≡ js → objectInner js ≡ true
-      → stackOf (set (s .builder .containers) (s .builder .counts .depth - 1) (step.withUnique (view .inner) u)) (s .builder .counts .depth) ≡ markAt u js
+      → stackOf noContainer (set (s .builder .containers) (s .builder .counts .depth - 1) (step.withUnique (view .inner) u)) (s .builder .counts .depth) ≡ markAt u js
   remarked u [] e h = absurd (true≢false (sym h))
   remarked u (k ∷ js) e h =
       let ks = s .builder .containers in
@@ -734,46 +770,145 @@ module _ {s : State} {m : Machine} (r : Represents s m) (o : Orderly m) where
       let a = represents-depth r ∙ ap length e in
       let b : length (k ∷ js) ≤ 64 = rw e at (o .depth) in
       let c = r .size in
-      let g : d - 1 + 1 ≡ d = omega arith in
       let x = step.withUnique (view .inner) u in
-      let p : stackOf (set ks (d - 1) x) d ≡ x ∷ stackOf ks (d - 1) = rw g at (stack-set ks (d - 1) x (omega arith)) in
-      let q = stack-pop ks d k js (r .stack ∙ e) in
+      let q = ap restOf (r .stack ∙ e) in
       let i : view .inner ≡ k = seen .inner ∙ ap topOf e in
-      p ∙ (λ z. step.withUnique (i z) u ∷ q z)
+      stack-renew noContainer ks d (d - 1) x (omega arith) (omega arith) ∙ (λ z. step.withUnique (i z) u ∷ q z)
+
+  -- ---- the elements
+
+  elements-rest : stackOf 0 (s .builder .elements) (s .builder .counts .depth - 1) ≡ restOf (m .elements)
+  elements-rest = sym (stack-rest 0 (s .builder .elements) (s .builder .counts .depth)) ∙ ap restOf (r .elements)
+
+  closed-elements : (js : List Container) → anyOpen js ≡ true → stackOf 0 (s .builder .elements) (s .builder .counts .depth - 1) ≡ closeAt m js .elements
+  closed-elements [] h = absurd (true≢false (sym h))
+  closed-elements (k ∷ js) h = elements-rest
+
+  -- with one more where a value enters a list
+  elements-more : (js : List Container) → m .conts ≡ js → stackOf 0 (elementsWith view (s .builder .elements)) (s .builder .counts .depth) ≡ oneMore js (m .elements)
+  unfolding stackOf oneMore
+  elements-more [] e = none (elementsWith view (s .builder .elements)) ∙ (sym (none (s .builder .elements)) ∙ r .elements)
+    where
+      none : (xs : List ℕ) → stackOf 0 xs (s .builder .counts .depth) ≡ []
+      none xs = rw (represents-depth r ∙ ap length e)
+  elements-more (k ∷ js) e =
+      let i : view .inner ≡ k = seen .inner ∙ ap topOf e in
+      let any : isOpen view ≡ true = open-law seen ∙ ap anyOpen e in
+      (λ z. stackOf 0 (cond (any z && not (i z .object)) (set ns (d - 1) (view .elements + 1)) ns) d) ∙ go (k .object)
+    where
+      ns : List ℕ
+      ns = s .builder .elements
+
+      d : ℕ
+      d = s .builder .counts .depth
+
+      one : 0 < d
+      one = omega (arith, represents-depth r, ap length e)
+
+      within : d ≤ length ns
+      within = omega (arith, represents-depth r, o .depth, r .sizes)
+
+      go : (t : Bool) → stackOf 0 (cond (not t) (set ns (d - 1) (view .elements + 1)) ns) d ≡ cond t (firstOf 0 (m .elements)) (firstOf 0 (m .elements) + 1) ∷ restOf (m .elements)
+      go true = stack-first 0 ns d one ∙ (λ z. firstOf 0 (r .elements z) ∷ restOf (r .elements z))
+      go false = stack-renew 0 ns d (d - 1) (view .elements + 1) (let x = one in omega arith) within ∙ (λ z. (seen .elements z + 1) ∷ restOf (r .elements z))
+
+  -- with one less where a list's new child is rolled back
+  elements-less : (js : List Container) → m .conts ≡ js → anyOpen js ≡ true → stackOf 0 (elementsAfter view rollBack (s .builder .elements)) (s .builder .counts .depth - 1) ≡ rollAt m js .elements
+  unfolding oneLess
+  elements-less [] e h = absurd (true≢false (sym h))
+  elements-less (k ∷ []) e h =
+      let below : ltb 1 (s .builder .counts .depth) ≡ false = ap (ltb 1) (represents-depth r ∙ ap length e) in
+      rw below elements-rest
+  elements-less (k ∷ (p ∷ js)) e h =
+      let i : view .inner ≡ k = seen .inner ∙ ap topOf e in
+      let below : ltb 1 d ≡ true = lt-ltb 1 d (omega (arith, two)) in
+      (λ z. stackOf 0 (cond (below z) (elementsBack view (i z .parent) ns) ns) (d - 1)) ∙ back (k .parent)
+    where
+      ns : List ℕ
+      ns = s .builder .elements
+
+      d : ℕ
+      d = s .builder .counts .depth
+
+      two : 2 ≤ d
+      two = omega (arith, represents-depth r, ap length e)
+
+      within : d ≤ length ns
+      within = omega (arith, represents-depth r, o .depth, r .sizes)
+
+      rest : List ℕ
+      rest = restOf (m .elements)
+
+      as-they-were : stackOf 0 ns (d - 1) ≡ firstOf 0 rest ∷ restOf rest
+      as-they-were = stack-first 0 ns (d - 1) (omega (arith, two)) ∙ (λ z. firstOf 0 (elements-rest z) ∷ restOf (elements-rest z))
+
+      new : (t : Bool) → stackOf 0 (cond t ns (set ns (d - 2) (view .siblings - 1))) (d - 1) ≡ lessOf t New (firstOf 0 rest) ∷ restOf rest
+      new true = as-they-were
+      new false = stack-renew 0 ns (d - 1) (d - 2) (view .siblings - 1) (omega (arith, two)) (omega (arith, within)) ∙ (λ z. (seen .siblings z - 1) ∷ restOf (elements-rest z))
+
+      back : (q : ParentEntry) → stackOf 0 (elementsBack view q ns) (d - 1) ≡ lessOf (p .object) q (firstOf 0 rest) ∷ restOf rest
+      back New = let par : view .parent ≡ p = seen .parent ∙ ap nextOf e in (λ z. stackOf 0 (cond (par z .object) ns (set ns (d - 2) (view .siblings - 1))) (d - 1)) ∙ new (p .object)
+      back (Replaced a b) = as-they-were
+
+  -- and as many places as before
+  either-size : (t : Bool) (xs ys : List ℕ) → length xs ≡ 64 → length ys ≡ 64 → length (cond t xs ys) ≡ 64
+  either-size true xs ys a b = a
+  either-size false xs ys a b = b
+
+  with-sizes : length (elementsWith view (s .builder .elements)) ≡ 64
+  with-sizes = either-size (inList view) _ _ (length-set (s .builder .elements) (s .builder .counts .depth - 1) (view .elements + 1) ∙ r .sizes) (r .sizes)
+
+  back-sizes : length (elementsAfter view rollBack (s .builder .elements)) ≡ 64
+  back-sizes = either-size (ltb 1 (s .builder .counts .depth)) _ _ (go (view .inner .parent)) (r .sizes)
+    where
+      go : (p : ParentEntry) → length (elementsBack view p (s .builder .elements)) ≡ 64
+      go New = either-size (view .parent .object) _ _ (r .sizes) (length-set (s .builder .elements) (s .builder .counts .depth - 2) (view .siblings - 1) ∙ r .sizes)
+      go (Replaced id offset) = r .sizes
 
   -- a call that is carried out leaves a state that represents the machine after it
   pub represents-step : (c : Call) → numberOf (viewOf (s .builder)) (s .storage) c ≡ 0 → Represents (after s c) (apply m c)
   unfolding after registered appended opened closed rolledBack finished apply
   represents-step (register n) h =
-      record { stored = register-law seen n (clear (register n) h 12); stack = r .stack; size = r .size }
+      record { stored = register-law seen n (clear (register n) h 12); stack = r .stack; elements = r .elements; size = r .size; sizes = r .sizes }
   represents-step (append nm x) h =
       let a = append-admits nm x h in
-      record { stored = append-law seen o nm x (a .0) (a .1); stack = r .stack; size = r .size }
+      record {
+        stored = append-law seen o nm x (a .0) (a .1);
+        stack = r .stack;
+        elements = elements-more (m .conts) refl;
+        size = r .size;
+        sizes = with-sizes;
+      }
   represents-step (openIn nm object) h =
       let a = open-admits nm object h in
       let ks = s .builder .containers in
       let d = s .builder .counts .depth in
+      let ns = elementsWith view (s .builder .elements) in
       let z = r .size in
       let x = newContainer view (s .storage) nm object in
       record {
         stored = open-stored seen o nm object (a .0);
-        stack = stack-set ks d x (omega (arith, leb-false 64 d (a .1))) ∙ (ap (λ js. x ∷ js) (r .stack) ∙ open-container seen o nm object (a .0));
+        stack = stack-set noContainer ks d x (omega (arith, leb-false 64 d (a .1))) ∙ (ap (λ js. x ∷ js) (r .stack) ∙ open-container seen o nm object (a .0));
+        elements = stack-set 0 ns d 0 (let y = with-sizes in omega (arith, leb-false 64 d (a .1))) ∙ ap (λ js. 0 ∷ js) (elements-more (m .conts) refl);
         size = length-set ks d x ∙ z;
+        sizes = length-set ns d 0 ∙ with-sizes;
       }
   represents-step close h =
       let e = some-open (clear close h 3) in
-      record { stored = close-law seen o (m .conts) refl e (clear close h 14); stack = sym (popped (m .conts) refl e .0); size = r .size }
+      record { stored = close-law seen o (m .conts) refl e (clear close h 14); stack = popped (m .conts) refl e .0; elements = closed-elements (m .conts) e; size = r .size; sizes = r .sizes }
   represents-step rollBack h =
       let e = some-open (clear rollBack h 3) in
-      record { stored = roll-law seen o (m .conts) refl e; stack = sym (popped (m .conts) refl e .1); size = r .size }
+      record { stored = roll-law seen o (m .conts) refl e; stack = popped (m .conts) refl e .1; elements = elements-less (m .conts) refl e; size = r .size; sizes = back-sizes }
   represents-step (uniqueness u) h =
       let t = r .stored in
       record {
         stored = record { value = t .value; bytes = t .bytes; within = t .within; names = t .names; entries = t .entries; unique = t .unique; finished = t .finished; floor = t .floor };
         stack = remarked u (m .conts) refl (sym (in-law seen) ∙ not-false _ (clear (uniqueness u) h 3));
+        elements = r .elements;
+        sizes = r .sizes;
         size = length-set (s .builder .containers) (s .builder .counts .depth - 1) (step.withUnique (view .inner) u) ∙ r .size;
       }
-  represents-step (finish out) h = record { stored = finish-law seen out; stack = r .stack; size = r .size }
+  represents-step (finish out) h = record { stored = finish-law seen out; stack = r .stack; elements = r .elements; size = r .size; sizes = r .sizes }
 
   -- and the lent lists are as long as before
   pub represents-lent : (c : Call) → numberOf (viewOf (s .builder)) (s .storage) c ≡ 0 → lentBy (after s c .storage) ≡ lentBy (s .storage)

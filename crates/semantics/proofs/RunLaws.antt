@@ -64,7 +64,7 @@ pub record Follows (lent : Lent) (s : State) (a : Account) : Type 0 where
 pub follows-fresh : (s : State) → Fresh (s .builder) → Follows (lentBy (s .storage)) s (noAccount (s .builder .counts .unique) (floorOf s))
 follows-fresh s f =
     record {
-      machine = record { bytes = []; names = []; entries = []; conts = []; unique = s .builder .counts .unique; finished = false; floor = floorOf s };
+      machine = record { bytes = []; names = []; entries = []; conts = []; elements = []; unique = s .builder .counts .unique; finished = false; floor = floorOf s };
       represents = represents-fresh s f;
       linked = linked-fresh (s .builder .counts .unique) (floorOf s) (f .floor);
       room = refl;

@@ -3,15 +3,16 @@ use mathlib.Core.Path.{_≡_, refl, sym, _∙_, ap, subst}
 use mathlib.Core.Bool.{Bool, true, false, cond, not, _&&_, _||_, true≢false}
 use mathlib.Core.List.{List, [], _∷_, _++_, append-nil}
 use mathlib.Core.Option.{Option, none, some}
-use Prim.Native.Nat.{ℕ, _+_, _≤_, _<_}
+use Prim.Native.Nat.{ℕ, _+_, _^_, _≤_, _<_}
 use native.Mathlib.Omega.{arith}
 use lib.Dec.{eqb, leb, ltb}
-use lib.ListN.{length}
+use lib.ListN.{drop, length, length-append, length-take, take, take-append-drop}
 use borrow.Author.Tests.{ltb-false, leb-true, leb-false, not-false}
 use Rattle.encoding.specs.Rows.{Row, first, testOf, Clear}
 use Rattle.encoding.specs.Slices.{counted, fits}
 use Rattle.encoding.proofs.RowsLaws.{clear-at, clear-around}
-use Rattle.value.specs.Scalar.{scalarBytes, Whole}
+use Rattle.value.specs.Scalar.{scalarBytes}
+use Rattle.measure.proofs.ValueLaws.{Plain}
 use Rattle.metadata.specs.Names.{Name}
 use Rattle.metadata.specs.Bytes.{joined}
 use Rattle.metadata.proofs.DictionaryLaws.{Distinct}
@@ -26,12 +27,12 @@ use Rattle.semantics.specs.Ledger.{Lent, Account, noLedger, total, inner
 use Rattle.semantics.specs.Ledger as ledger
 use Rattle.semantics.specs.Run.{isFinish, noAccount, accountAfter}
 use Rattle.semantics.proofs.TreeLaws.{encode-some}
-use Rattle.semantics.proofs.HistoryLaws.{extends-same, with-extends, with-held, Named, Chained, WellFormed, FormedLevels, Suits, innerObject, scalar-whole, orderly-none, accepted-orderly, formed-none, accepted-formed, enter-names, close-names, chained-grows}
+use Rattle.semantics.proofs.HistoryLaws.{extends-same, with-extends, with-held, Named, Chained, WellFormed, FormedLevels, Suits, innerObject, scalar-plain, orderly-none, accepted-orderly, formed-none, accepted-formed, enter-names, close-names, chained-grows}
 use Rattle.semantics.proofs.HistoryLaws as history
 use Rattle.semantics.proofs.Machine.{Machine, note, apply, closeAt, rollAt, markAt, uniqueAt, anyOpen, objectInner, misnamedAt, liveAt, headerAt, noEntryFree, frontAt, backAt, rowsAt, numberAt, Orderly}
 use Rattle.semantics.proofs.LayerLaws.{layer-new}
 use Rattle.semantics.proofs.LevelLaws.{Used, Ground, Topped, Levels, levels-grow, levels-enter, levels-close, levels-roll, names-roll}
-use Rattle.semantics.proofs.LevelFacts.{usedBy, levels-total, levels-used, levels-open, levels-object, levels-depth, levels-unique, levels-live, levels-header, levels-inner, levels-rising, levels-parent}
+use Rattle.semantics.proofs.LevelFacts.{usedBy, levels-total, levels-used, levels-open, levels-object, levels-depth, levels-unique, levels-live, levels-header, levels-inner, levels-counting, levels-rising, levels-parent}
 
 -- ---- what a clear row gives
 
@@ -70,11 +71,12 @@ topless-at floor top u [] (k ∷ ks) ns s x e = absurd x
 topless-at floor top u (l ∷ ls) [] ns s x e = absurd x
 topless-at floor top u (l ∷ ls) (k ∷ ks) ns s x e = x .topless
 
--- 14: a scalar that fits is whole
-whole-at : (v : Scalars) (at size : ℕ) → not (fits at (length (scalarBytes (scalarOf v))) size) ≡ false → Whole (scalarOf v)
-whole-at v at size e =
-    let n = length (scalarBytes (scalarOf v)) in
-    scalar-whole v (omega (arith, leb-true (at + n) (counted size) (not-false (fits at n size) e)))
+-- 14: what fits ends where four bytes count, so that a scalar is whole
+fits-few : (at n size : ℕ) → not (fits at n size) ≡ false → at + n < 256 ^ 4
+fits-few at n size e = omega (arith, leb-true (at + n) (counted size) (not-false (fits at n size) e))
+
+plain-at : (v : Scalars) (at size : ℕ) → not (fits at (length (scalarBytes (scalarOf v))) size) ≡ false → Plain (scalarOf v)
+plain-at v at size e = scalar-plain v (omega (arith, fits-few at (length (scalarBytes (scalarOf v))) size e))
 
 -- ---- the levels after each call
 
@@ -126,8 +128,10 @@ module _ (m : Machine) (top : Option Tree) (sums : List ℕ) (marks : List Bool)
           outer = usedBy m sums marks;
           body = [];
           seg = [];
+          count = 0;
           bytesAre = sym (append-nil (m .bytes));
           entriesAre = sym (append-nil (note ns (m .conts) nm (length (m .bytes)) (m .entries)));
+          elementsAre = refl;
           sumsAre = refl;
           marksAre = marks-open (m .floor) top (m .unique) ls (m .conts) (m .names) (usedBy m sums marks) nm object x ∙ ap (λ u. u ∷ marks) (sym (levels-unique m sums marks (m .floor) top ls (m .conts) x));
           opened = record { value = refl; names = refl; text = refl; entries = refl; object = refl; parent = refl };
@@ -138,24 +142,24 @@ module _ (m : Machine) (top : Option Tree) (sums : List ℕ) (marks : List Bool)
         };
       }
 
-  next-close : (ls : List Level) (ks : List Container) → anyOpen ks ≡ true → Distinct (m .names) → FormedLevels ls → Chained (m .names) top ls → LevelsAt ls ks
+  next-close : (ls : List Level) (ks : List Container) → anyOpen ks ≡ true → Distinct (m .names) → FormedLevels ls → Chained (m .names) top ls → length (m .bytes) < 256 ^ 4 → LevelsAt ls ks
       → Next (closeAt m ks) (closeLevel (m .names) top ls) (summed (m .floor) (historyAt ls) sums close) (marksAfter marks close false)
   unfolding summed
-  next-close [] [] o d f c x = absurd (true≢false (sym o))
-  next-close [] (k ∷ ks) o d f c x = absurd x
-  next-close (l ∷ ls) [] o d f c x = absurd x
-  next-close (l ∷ ls) (k ∷ ks) o d f c x =
-      record { names = sym (close-names (m .names) top (l ∷ ls)); levels = levels-close (m .floor) top (m .unique) l ls k ks (m .names) (usedBy m sums marks) d c (f .1) x }
+  next-close [] [] o d f c small x = absurd (true≢false (sym o))
+  next-close [] (k ∷ ks) o d f c small x = absurd x
+  next-close (l ∷ ls) [] o d f c small x = absurd x
+  next-close (l ∷ ls) (k ∷ ks) o d f c small x =
+      record { names = sym (close-names (m .names) top (l ∷ ls)); levels = levels-close (m .floor) top (m .unique) l ls k ks (m .names) (usedBy m sums marks) d c f small x }
 
-  next-roll : (ls : List Level) (ks : List Container) → anyOpen ks ≡ true → LevelsAt ls ks
+  next-roll : (ls : List Level) (ks : List Container) → anyOpen ks ≡ true → FormedLevels ls → LevelsAt ls ks
       → Next (rollAt m ks) (dropLevel (m .names) top ls) (summed (m .floor) (historyAt ls) sums rollBack) (marksAfter marks rollBack false)
   unfolding summed dropLevel
-  next-roll [] [] o x = absurd (true≢false (sym o))
-  next-roll [] (k ∷ ks) o x = absurd x
-  next-roll (l ∷ ls) [] o x = absurd x
-  next-roll (l ∷ ls) (k ∷ ks) o x =
+  next-roll [] [] o f x = absurd (true≢false (sym o))
+  next-roll [] (k ∷ ks) o f x = absurd x
+  next-roll (l ∷ ls) [] o f x = absurd x
+  next-roll (l ∷ ls) (k ∷ ks) o f x =
       let e = names-roll x in
-      record { names = e; levels = rw e (levels-roll (m .floor) top (m .unique) l ls k ks (m .names) (usedBy m sums marks) x) }
+      record { names = e; levels = rw e (levels-roll (m .floor) top (m .unique) l ls k ks (m .names) (usedBy m sums marks) f x) }
 
   next-unique : (ls : List Level) (ks : List Container) (u : Bool) → objectInner ks ≡ true → LevelsAt ls ks
       → Levels (m .floor) top (m .unique) ls (markAt u ks) (m .names) (usedBy m sums (marksAfter marks (uniqueness u) false))
@@ -168,8 +172,10 @@ module _ (m : Machine) (top : Option Tree) (sums : List ℕ) (marks : List Bool)
         outer = x .outer;
         body = x .body;
         seg = x .seg;
+        count = x .count;
         bytesAre = x .bytesAre;
         entriesAre = x .entriesAre;
+        elementsAre = x .elementsAre;
         sumsAre = x .sumsAre;
         marksAre = ap (λ z. marksAfter z (uniqueness u) false) (x .marksAre);
         opened = record { value = x .opened .value; names = x .opened .names; text = x .opened .text; entries = x .opened .entries; object = x .opened .object; parent = x .opened .parent };
@@ -181,13 +187,14 @@ module _ (m : Machine) (top : Option Tree) (sums : List ℕ) (marks : List Bool)
 
 -- ---- the relation
 
--- a machine beside an account: the same names and floor, the open containers level by level with sums and marks, and below them either
--- no top value and no bytes or the top value's bytes
+-- a machine beside an account: the same names and floor, bytes that four bytes count, the open containers level by level with sums and marks, and
+-- below them either no top value and no bytes or the top value's bytes
 pub record Linked (m : Machine) (a : Account) : Type 0 where
   pub names : m .names ≡ a .history .names
   pub finished : m .finished ≡ a .finished
   pub floor : m .floor ≡ a .floor
   pub good : goodFloor (m .floor) ≡ true
+  pub small : length (m .bytes) < 256 ^ 4
   pub depth : length (m .conts) ≤ 64
   pub orderly : history.Orderly (a .history)
   pub formed : WellFormed (a .history)
@@ -195,7 +202,7 @@ pub record Linked (m : Machine) (a : Account) : Type 0 where
 
 -- A FRESH BUILDER
 pub linked-fresh : (unique : Bool) (floor : ℕ) → goodFloor floor ≡ true
-    → Linked (record { bytes = []; names = []; entries = []; conts = []; unique = unique; finished = false; floor = floor }) (noAccount unique floor)
+    → Linked (record { bytes = []; names = []; entries = []; conts = []; elements = []; unique = unique; finished = false; floor = floor }) (noAccount unique floor)
 unfolding noLedger
 linked-fresh unique floor g =
     record {
@@ -203,22 +210,23 @@ linked-fresh unique floor g =
       finished = refl;
       floor = refl;
       good = g;
+      small = omega arith;
       depth = omega arith;
       orderly = orderly-none;
       formed = formed-none;
-      levels = record { value = refl; entriesAre = refl; sumsAre = refl; marksAre = refl };
+      levels = record { value = refl; entriesAre = refl; elementsAre = refl; sumsAre = refl; marksAre = refl };
     }
 
 -- ---- a call that is carried out
 
 module _ (m : Machine) (top : Option Tree) (sums : List ℕ) (marks : List Bool) (ls : List Level) (o : history.Orderly (historyAt m top sums marks ls)) (w : WellFormed (historyAt m top sums marks ls))
-    (x : LevelsAt m top sums marks ls (m .conts)) where
+    (small : length (m .bytes) < 256 ^ 4) (x : LevelsAt m top sums marks ls (m .conts)) where
   abbrev here : History
   here = historyAt m top sums marks ls
 
   suits : (lent : Lent) (c : Call) → Clear (rowsAt m lent c) → Suits here c
   suits lent (register n) k = tt
-  suits lent (append nm v) k = (named-at (m .floor) top (m .unique) ls (m .conts) (m .names) (usedBy m sums marks) nm x (append-at m lent nm v k 5), whole-at v (length (m .bytes)) (lent .value) (append-at m lent nm v k 14))
+  suits lent (append nm v) k = (named-at (m .floor) top (m .unique) ls (m .conts) (m .names) (usedBy m sums marks) nm x (append-at m lent nm v k 5), plain-at v (length (m .bytes)) (lent .value) (append-at m lent nm v k 14))
   suits lent (openIn nm object) k = named-at (m .floor) top (m .unique) ls (m .conts) (m .names) (usedBy m sums marks) nm x (none-at m lent (openIn nm object) k 5)
   suits lent close k = tt
   suits lent rollBack k = tt
@@ -231,8 +239,8 @@ module _ (m : Machine) (top : Option Tree) (sums : List ℕ) (marks : List Bool)
   next lent (append nm v) k =
       next-append m top sums marks ls nm v (o .chained) (suits lent (append nm v) k .0) (topless-at (m .floor) top (m .unique) ls (m .conts) (m .names) (usedBy m sums marks) x (append-at m lent nm v k 6)) x
   next lent (openIn nm object) k = next-open m top sums marks ls nm object (topless-at (m .floor) top (m .unique) ls (m .conts) (m .names) (usedBy m sums marks) x (none-at m lent (openIn nm object) k 6)) x
-  next lent close k = next-close m top sums marks ls (m .conts) (not-false (anyOpen (m .conts)) (none-at m lent close k 3)) (o .distinct) (w .formedLevels) (o .chained) x
-  next lent rollBack k = next-roll m top sums marks ls (m .conts) (not-false (anyOpen (m .conts)) (none-at m lent rollBack k 3)) x
+  next lent close k = next-close m top sums marks ls (m .conts) (not-false (anyOpen (m .conts)) (none-at m lent close k 3)) (o .distinct) (w .formedLevels) (o .chained) small x
+  next lent rollBack k = next-roll m top sums marks ls (m .conts) (not-false (anyOpen (m .conts)) (none-at m lent rollBack k 3)) (w .formedLevels) x
   next lent (uniqueness u) k = record { names = refl; levels = next-unique m top sums marks ls (m .conts) u (not-false (objectInner (m .conts)) (none-at m lent (uniqueness u) k 3)) x }
   next lent (finish out) k = record { names = refl; levels = x }
 
@@ -258,6 +266,32 @@ depth-after m lent (uniqueness u) k h = go (m .conts) h
     go [] g = g
     go (k ∷ ks) g = g
 depth-after m lent (finish out) k h = h
+
+-- the bytes stay as few as four bytes count
+small-after : (m : Machine) (lent : Lent) (c : Call) → Clear (rowsAt m lent c) → length (m .bytes) < 256 ^ 4 → length (apply m c .bytes) < 256 ^ 4
+unfolding apply
+small-after m lent (register n) k h = h
+small-after m lent (append nm v) k h =
+    let bs = scalarBytes (scalarOf v) in
+    omega (arith, length-append (m .bytes) bs, fits-few (length (m .bytes)) (length bs) (lent .value) (append-at m lent nm v k 14))
+small-after m lent (openIn nm object) k h = h
+small-after m lent close k h = go (m .conts) (fits-few (length (m .bytes)) (length (headerAt m (m .conts))) (lent .value) (none-at m lent close k 14))
+  where
+    go : (ks : List Container) → length (m .bytes) + length (headerAt m ks) < 256 ^ 4 → length (closeAt m ks .bytes) < 256 ^ 4
+    go [] f = h
+    go (k ∷ ks) f =
+        let a = take (k .value) (m .bytes) in
+        let b = drop (k .value) (m .bytes) in
+        let n = headerAt m (k ∷ ks) in
+        let e : length a + length b ≡ length (m .bytes) = sym (length-append a b) ∙ ap length (take-append-drop (k .value) (m .bytes)) in
+        omega (arith, length-append a (n ++ b), length-append n b)
+small-after m lent rollBack k h = go (m .conts)
+  where
+    go : (ks : List Container) → length (rollAt m ks .bytes) < 256 ^ 4
+    go [] = h
+    go (k ∷ ks) = simp length-take (omega arith)
+small-after m lent (uniqueness u) k h = h
+small-after m lent (finish out) k h = h
 
 finished-after : (m : Machine) (t : Bool) (c : Call) → m .finished ≡ t → apply m c .finished ≡ (t || (isFinish c && true))
 unfolding apply
@@ -323,15 +357,16 @@ linked-step {m} {a} x lent c k =
     let w = subst (λ (z : Account). WellFormed (z .history)) (sym p) (x .formed) in
     let top = a .history .top in
     let ls = a .history .levels in
-    let n = next m top (a .sums) (a .marks) ls o w (x .levels) lent c k in
+    let n = next m top (a .sums) (a .marks) ls o w (x .small) (x .levels) lent c k in
     let y : Linked (apply m c) (accountAfter (named m a) c false) = record {
       names = n .names;
       finished = finished-after m (a .finished) c (x .finished);
       floor = floor-after m c;
       good = ap goodFloor (floor-after m c) ∙ x .good;
+      small = small-after m lent c k (x .small);
       depth = depth-after m lent c k (x .depth);
       orderly = accepted-orderly (named m a .history) c o;
-      formed = accepted-formed (named m a .history) c (suits m top (a .sums) (a .marks) ls o w (x .levels) lent c k) w;
+      formed = accepted-formed (named m a .history) c (suits m top (a .sums) (a .marks) ls o w (x .small) (x .levels) lent c k) w;
       levels = n .levels;
     } in
     subst (λ (z : Account). Linked (apply m c) (accountAfter z c false)) p y
@@ -411,7 +446,7 @@ module _ (m : Machine) (a : Account) (x : Linked m a) where
   second-agree = λ i. not (open-agree i) && ltb 0 (bytes-agree i)
 
   free-agree : (lent : Lent) (nm : Option Name) → misnamedAt nm (m .conts) ≡ false → noEntryFree m lent nm ≡ ledger.noEntryFree lent (named m a .history) nm
-  free-agree lent nm e i = (open-agree i && not (live-agree nm e i)) && leb (roomFor (lent .entries)) (entries-agree i)
+  free-agree lent nm e i = (object-agree i && not (live-agree nm e i)) && leb (roomFor (lent .entries)) (entries-agree i)
 
   taken-agree : (nm : Option Name) → misnamedAt nm (m .conts) ≡ false → (uniqueAt m (m .conts) && liveAt m nm (m .conts)) ≡ (markNow (a .marks) && ledger.liveIn nm (a .history .levels))
   taken-agree nm e i = unique-agree i && live-agree nm e i
@@ -474,8 +509,9 @@ linked-orderly {m} {a} x =
     record {
       rising = levels-rising (m .floor) top (m .unique) ls (m .conts) (m .names) (usedBy m (a .sums) (a .marks)) (length (m .bytes)) (length (m .names)) (length (joined (m .names))) (length (m .entries))
           (omega arith) (omega arith) (omega arith) (omega arith) f c (x .levels);
+      counting = levels-counting (m .floor) top (m .unique) ls (m .conts) (m .names) (usedBy m (a .sums) (a .marks)) c (x .levels);
       depth = x .depth;
-      inner = levels-inner m (a .sums) (a .marks) (m .floor) top (m .unique) ls (m .conts) c (x .levels);
+      inner = levels-inner m (a .sums) (a .marks) (m .floor) top (m .unique) ls (m .conts) f c (x .small) (x .levels);
       parent = levels-parent (m .floor) top (m .unique) ls m (m .conts) (a .sums) (a .marks) f c (x .levels);
       distinct = distinct m a x;
       floor = x .good;

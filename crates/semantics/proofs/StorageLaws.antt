@@ -1,8 +1,8 @@
--- Lent lists, the entries in them and the open containers, read as the machine has them.
+-- Lent lists, the entries in them, the open containers and their elements, read as the machine has them.
 use mathlib.Core.Path.{_≡_, refl, sym, _∙_, ap}
 use mathlib.Core.Logic.{inl, inr, _≢_}
 use mathlib.Core.Bool.{Bool, true, false, cond, not, _&&_}
-use mathlib.Core.List.{List, [], _∷_, _++_, append-assoc, tail-eq-of-cons-eq}
+use mathlib.Core.List.{List, [], _∷_, _++_, append-assoc}
 use Prim.Native.Nat.{ℕ, zero, suc, _+_, _-_, _*_, _≤_, _<_}
 use native.Mathlib.Nat.{add-zero, zero-add, sub-zero}
 use native.Mathlib.Omega.{arith}
@@ -17,8 +17,8 @@ use Rattle.container.specs.Entries.{entriesOf, entryAt, idsOf, misplaced, putEn
 use Rattle.container.proofs.EntryLaws.{Apart, length-set-entry, entry-set-same, set-entry-offset, length-entries, entries-append, entries-set-other, ids-bounded, length-put, entries-put-other}
 use Rattle.semantics.specs.declared.Container.{Container}
 use Rattle.semantics.specs.declared.ParentEntry.the-variants.{New, Replaced}
-use Rattle.semantics.specs.Record.{noContainer, containerAt, innermost, parentOf, under, rising, chained}
-use Rattle.semantics.proofs.Machine.{put, find, Rising}
+use Rattle.semantics.specs.Record.{noContainer, containerAt, elementsAt, under, countable, rising, chained}
+use Rattle.semantics.proofs.Machine.{put, find, firstOf, restOf, Rising, Counting}
 
 -- ---- tests
 
@@ -185,77 +185,90 @@ module _ {l : List ℕ} {n : ℕ} {es : List Entry} (u : Used l n es) where
   pub used-kept : (k : ℕ) (fs : List Entry) → k ≤ n → Used (putEntries k fs l) k (take k es)
   used-kept k fs h = let r = u .room in record { all = entries-put-other k fs l 0 k (inr (omega arith)) ∙ used-before k h; room = rw length-put (omega arith) }
 
--- ---- the open containers
+-- ---- the open containers, and their elements
 
 -- the first d, the innermost first
-unfoldable pub stackOf : List Container → ℕ → List Container
-stackOf ks zero = []
-stackOf ks (suc d) = containerAt ks d ∷ stackOf ks d
+unfoldable pub stackOf : {A : Type 0} → A → List A → ℕ → List A
+stackOf z xs zero = []
+stackOf z xs (suc d) = getD xs d z ∷ stackOf z xs d
 
--- the innermost and its parent
+-- the innermost container and its parent
 abbrev pub topOf : List Container → Container
-topOf [] = noContainer
-topOf (k ∷ ks) = k
+topOf ks = firstOf noContainer ks
 
 abbrev pub nextOf : List Container → Container
-nextOf [] = noContainer
-nextOf (k ∷ ks) = topOf ks
+nextOf ks = firstOf noContainer (restOf ks)
 
-pub length-stack : (ks : List Container) (d : ℕ) → length (stackOf ks d) ≡ d
-unfolding stackOf
-length-stack ks zero = refl
-length-stack ks (suc d) = ap suc (length-stack ks d)
+module _ {A : Type 0} (z : A) where
+  pub length-stack : (xs : List A) (d : ℕ) → length (stackOf z xs d) ≡ d
+  unfolding stackOf
+  length-stack xs zero = refl
+  length-stack xs (suc d) = ap suc (length-stack xs d)
 
-pub stack-top : (ks : List Container) (d : ℕ) → innermost ks d ≡ topOf (stackOf ks d)
-unfolding stackOf
-stack-top ks zero = refl
-stack-top ks (suc d) =
-    let e : suc d - 1 ≡ d = omega arith in
-    rw (lt-ltb 0 (suc d) (omega arith), e)
+  pub stack-top : (xs : List A) (d : ℕ) → cond (ltb 0 d) (getD xs (d - 1) z) z ≡ firstOf z (stackOf z xs d)
+  unfolding stackOf
+  stack-top xs zero = refl
+  stack-top xs (suc d) =
+      let e : suc d - 1 ≡ d = omega arith in
+      rw (lt-ltb 0 (suc d) (omega arith), e)
 
-pub stack-next : (ks : List Container) (d : ℕ) → parentOf ks d ≡ nextOf (stackOf ks d)
-unfolding stackOf
-stack-next ks zero = refl
-stack-next ks (suc zero) = refl
-stack-next ks (suc (suc d)) =
-    let e : suc (suc d) - 2 ≡ d = omega arith in
-    rw (lt-ltb 1 (suc (suc d)) (omega arith), e)
+  pub stack-next : (xs : List A) (d : ℕ) → cond (ltb 1 d) (getD xs (d - 2) z) z ≡ firstOf z (restOf (stackOf z xs d))
+  unfolding stackOf
+  stack-next xs zero = refl
+  stack-next xs (suc zero) = refl
+  stack-next xs (suc (suc d)) =
+      let e : suc (suc d) - 2 ≡ d = omega arith in
+      rw (lt-ltb 1 (suc (suc d)) (omega arith), e)
 
--- one set beyond them, one pushed, one set in place of the innermost
-pub stack-other : (ks : List Container) (d j : ℕ) (k : Container) → d ≤ j → stackOf (set ks j k) d ≡ stackOf ks d
-unfolding stackOf
-stack-other ks zero j k h = refl
-stack-other ks (suc d) j k h =
-    let n : d ≢ j = (λ q. omega arith) in
-    rw (getD-set-other ks j d k noContainer n, stack-other ks d j k (omega arith))
+  -- those outside of the innermost
+  pub stack-rest : (xs : List A) (d : ℕ) → restOf (stackOf z xs d) ≡ stackOf z xs (d - 1)
+  unfolding stackOf
+  stack-rest xs zero = refl
+  stack-rest xs (suc d) = let e : suc d - 1 ≡ d = omega arith in rw e
 
-pub stack-set : (ks : List Container) (d : ℕ) (k : Container) → d < length ks → stackOf (set ks d k) (d + 1) ≡ k ∷ stackOf ks d
-unfolding stackOf
-stack-set ks d k h =
-    let e : d + 1 ≡ suc d = omega arith in
-    rw (e, getD-set-same ks d k noContainer h, stack-other ks d d k (omega arith))
+  -- the innermost before them
+  pub stack-first : (xs : List A) (d : ℕ) → 0 < d → stackOf z xs d ≡ firstOf z (stackOf z xs d) ∷ restOf (stackOf z xs d)
+  unfolding stackOf
+  stack-first xs zero h = absurd (omega arith)
+  stack-first xs (suc d) h = refl
 
-pub stack-pop : (ks : List Container) (d : ℕ) (k : Container) (js : List Container) → stackOf ks d ≡ k ∷ js → stackOf ks (d - 1) ≡ js
-unfolding stackOf
-stack-pop ks zero k js h = absurd (let z : _≡_ {A = ℕ} 0 1 = cc in omega arith)
-stack-pop ks (suc d) k js h = let e : suc d - 1 ≡ d = omega arith in rw e (tail-eq-of-cons-eq h)
+  -- one set beyond them, one pushed, one set in place of the innermost
+  pub stack-other : (xs : List A) (d j : ℕ) (x : A) → d ≤ j → stackOf z (set xs j x) d ≡ stackOf z xs d
+  unfolding stackOf
+  stack-other xs zero j x h = refl
+  stack-other xs (suc d) j x h =
+      let n : d ≢ j = (λ q. omega arith) in
+      rw (getD-set-other xs j d x z n, stack-other xs d j x (omega arith))
 
--- no mark falls
-pub stack-chained : (ks : List Container) (d a b c e : ℕ) → Rising (stackOf ks d) a b c e → d ≤ 64 → chained ks d ≡ true
+  pub stack-set : (xs : List A) (d : ℕ) (x : A) → d < length xs → stackOf z (set xs d x) (d + 1) ≡ x ∷ stackOf z xs d
+  unfolding stackOf
+  stack-set xs d x h =
+      let e : d + 1 ≡ suc d = omega arith in
+      rw (e, getD-set-same xs d x z h, stack-other xs d d x (omega arith))
+
+  pub stack-renew : (xs : List A) (d j : ℕ) (x : A) → d ≡ j + 1 → d ≤ length xs → stackOf z (set xs j x) d ≡ x ∷ restOf (stackOf z xs d)
+  stack-renew xs d j x e h =
+      let r : restOf (stackOf z xs d) ≡ stackOf z xs j = stack-rest xs d ∙ ap (stackOf z xs) (omega arith) in
+      rw (r, e) (stack-set xs j x (omega arith))
+
+-- no mark falls, and no list counts too much
+pub stack-chained : (ks : List Container) (ns : List ℕ) (d a b c e child : ℕ) → Rising (stackOf noContainer ks d) a b c e → Counting (stackOf noContainer ks d) (stackOf 0 ns d) a child → d ≤ 64
+    → chained ks ns d ≡ true
 unfolding chained rising stackOf
-stack-chained ks d a b c e r h = rw (le-leb d 64 h) (go d a b c e r)
+stack-chained ks ns d a b c e child r w h = rw (le-leb d 64 h) (go d a b c e child r w)
   where
     all : (s t u v : Bool) → s ≡ true → t ≡ true → u ≡ true → v ≡ true → (s && (t && (u && v))) ≡ true
     all s t u v p q r w = rw (p, q, r, w)
 
-    go : (d a b c e : ℕ) → Rising (stackOf ks d) a b c e → rising ks (d - 1) ≡ true
-    go zero a b c e r = refl
-    go (suc zero) a b c e r = refl
-    go (suc (suc d)) a b c e r =
+    go : (d a b c e child : ℕ) → Rising (stackOf noContainer ks d) a b c e → Counting (stackOf noContainer ks d) (stackOf 0 ns d) a child → rising ks ns (d - 1) ≡ true
+    go zero a b c e child r w = refl
+    go (suc zero) a b c e child r w = refl
+    go (suc (suc d)) a b c e child r w =
         let k = containerAt ks d in
         let j = containerAt ks (suc d) in
         let x = r .4 in
         let g : suc (suc d) - 1 ≡ suc d = omega arith in
         let f : suc d - 1 ≡ d = omega arith in
         let u : under k j ≡ true = all _ _ _ _ (le-leb (k .value) (j .value) (x .0)) (le-leb (k .names) (j .names) (x .1)) (le-leb (k .text) (j .text) (x .2)) (le-leb (k .entries) (j .entries) (x .3)) in
-        rw g (rw u (rw f at (go (suc d) (j .value) (j .names) (j .text) (j .entries) x)))
+        let n : countable k (elementsAt ns d) (j .value - k .value + 1) ≡ true = w .1 .0 in
+        rw g (rw (u, n) (rw f at (go (suc d) (j .value) (j .names) (j .text) (j .entries) 1 x (w .1))))

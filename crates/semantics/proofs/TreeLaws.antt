@@ -9,7 +9,7 @@ use native.Mathlib.Omega.{arith}
 use lib.ListN.{length, getD, length-append, length-map}
 use borrow.Author.Tests.{le-ltb, lt-leb}
 use Rattle.encoding.proofs.PackedLaws.{Below, append-split}
-use Rattle.value.specs.Scalar.{Stored, primitive, short, Scalar, firstByte, scalarBytes, Whole}
+use Rattle.value.specs.Scalar.{Stored, primitive, short, Scalar, firstByte, scalarBytes}
 use Rattle.value.proofs.ScalarParse.{scalar-split}
 use Rattle.metadata.specs.Names.{Name, place}
 use Rattle.metadata.proofs.DictionaryLaws.{place-here, place-held}
@@ -20,6 +20,7 @@ use Rattle.container.specs.Sort.{sort}
 use Rattle.container.proofs.EntryLaws.{ids-bounded, entries-equal}
 use Rattle.container.proofs.LayoutLaws.{BoundsList, BoundsObject, list-count, object-count, list-not-object, list-not-scalar, object-not-scalar, written-list-split, written-object-split}
 use Rattle.container.proofs.SortLaws.{Mem, Incl, Distinct, length-sort, sort-incl, sort-grows, object-bounds}
+use Rattle.measure.proofs.ValueLaws.{Plain}
 use Rattle.semantics.specs.Tree.{Mark, element, live, replaced, Tree, scalar, nest, Items, empty, item, Part, dataOf, startsFrom, withField, fieldsFrom, listBytes, objectBytes, encode, partsOf}
 
 -- ---- what is well formed
@@ -31,10 +32,10 @@ Fits true (live n) = Unit {0}
 Fits true replaced = Unit {0}
 Fits false m = m ≡ element
 
--- scalars are whole, and items fit their container
+-- scalars are whole and of a known type, and items fit their container
 abbrev mutual
   pub Formed : Tree → Type 0
-  Formed (scalar s) = Whole s
+  Formed (scalar s) = Plain s
   Formed (nest object is) = FormedItems object is
 
   pub FormedItems : Bool → Items → Type 0
@@ -328,7 +329,7 @@ module _ (floor : ℕ) (names : List Name) (few : length names ≤ 256 ^ 4) wher
     unfolding encode dataOf
 
     pub tree-split : (t u : Tree) (r s : List ℕ) → Sound floor names t → Sound floor names u → encode floor names t ++ r ≡ encode floor names u ++ s → (t ≡ u) × (r ≡ s)
-    tree-split (scalar x) (scalar y) r s h k e = let v = scalar-split x y r s (h .formed) (k .formed) e in (ap scalar (v .0), v .1)
+    tree-split (scalar x) (scalar y) r s h k e = let v = scalar-split x y r s (h .formed .whole) (k .formed .whole) e in (ap scalar (v .0), v .1)
     tree-split (scalar x) (nest other js) r s h k e = absurd (scalar-apart floor names other x js s r (sym e))
     tree-split (nest object is) (scalar y) r s h k e = absurd (scalar-apart floor names object y is r s e)
     tree-split (nest object is) (nest other js) r s h k e = nest-split object other is js r s h k (λ d. items-split object other is js (inside floor names h) (inside floor names k) d) e

@@ -1,5 +1,5 @@
 -- Number 1 of document 01's table, clause by clause.
-use mathlib.Core.Bool.{Bool, false, not, _&&_, _||_}
+use mathlib.Core.Bool.{Bool, true, false, cond, not, _&&_, _||_}
 use mathlib.Core.List.{List}
 use mathlib.Core.Option.{Option, none, some}
 use Prim.Native.Nat.{ℕ}
@@ -9,10 +9,11 @@ use Rattle.encoding.specs.Slices.{counted}
 use Rattle.metadata.specs.Names.{Name, exceeds, risen, fieldNames, textSize}
 use Rattle.container.specs.Entries.{misplaced, roomFor, seek}
 use Rattle.container.specs.declared.Entry.{Entry}
+use Rattle.measure.specs.Measure.{wholeValues}
 use Rattle.semantics.specs.declared.ParentEntry.{ParentEntry}
 use Rattle.semantics.specs.declared.ParentEntry.the-variants.{New, Replaced}
 use Rattle.semantics.specs.declared.View.{View}
-use Rattle.semantics.specs.Record.{Storage, Call, register, append, openIn, close, rollBack, uniqueness, finish, goodFloor, isOpen, innerSize, parentSize, innerEntries, parentEntries}
+use Rattle.semantics.specs.Record.{Storage, Call, register, append, openIn, close, rollBack, uniqueness, finish, goodFloor, countable, inObject, inList, innerSize, innerData, parentSize, innerEntries, parentEntries}
 
 -- "a used count exceeds its lent buffer"
 unfoldable pub overUsed : View → Storage → Bool
@@ -21,14 +22,17 @@ overUsed v l =
     ltb (counted (length (l .value))) (c .value)
     || (exceeds (c .dictionary) (length (l .text)) (length (l .ends)) || ltb (roomFor (length (l .entries))) (c .entries))
 
--- the innermost's starting marks lie within the used counts
+-- the innermost's starting marks lie within the used counts, and a list, with no child open in it, counts no more than its data bytes
 abbrev pub grown : View → Bool
 grown v =
     let k = v .inner in
     let c = v .counts in
-    leb (k .value) (c .value) && (leb (k .names) (fieldNames (c .dictionary)) && (leb (k .text) (textSize (c .dictionary)) && leb (k .entries) (c .entries)))
+    leb (k .value) (c .value)
+    && (leb (k .names) (fieldNames (c .dictionary))
+    && (leb (k .text) (textSize (c .dictionary)) && (leb (k .entries) (c .entries) && countable k (v .elements) (innerSize v))))
 
--- "over 64 containers are open, or their starting marks fall or exceed the used counts"
+-- "over 64 containers are open, or their starting marks fall or exceed the used counts"; document 02, A8, "a count above the list's data bytes, plus
+-- one for a child open in it, is 1 at every call"
 unfoldable pub unchained : View → Bool
 unchained v = not (v .chain && grown v)
 
@@ -41,26 +45,32 @@ unfoldable pub fallenEnds : View → Storage → Bool
 fallenEnds v l = not (risen 0 (take (fieldNames (v .counts .dictionary)) (l .ends)) (textSize (v .counts .dictionary)))
 
 -- "an entry that it reads has an offset beyond its container's data .. or, in an object, an id not below the name count":
--- the innermost's entries, and the parent's
+-- the innermost's entries, and the parent's. Document 02, A8, "List elements shall take no entries": a list has none.
 unfoldable pub misplacedInner : View → Storage → Bool
-misplacedInner v l = isOpen v && misplaced (v .inner .object) (fieldNames (v .counts .dictionary)) (innerSize v) (innerEntries v l)
+misplacedInner v l = inObject v && misplaced true (fieldNames (v .counts .dictionary)) (innerSize v) (innerEntries v l)
 
 unfoldable pub misplacedParent : View → Storage → Bool
-misplacedParent v l = misplaced (v .parent .object) (fieldNames (v .counts .dictionary)) (parentSize v) (parentEntries v l)
+misplacedParent v l = v .parent .object && misplaced true (fieldNames (v .counts .dictionary)) (parentSize v) (parentEntries v l)
+
+-- A8, "the data is not as many whole values as the list counts"
+unfoldable pub uncounted : View → Storage → Bool
+uncounted v l = inList v && not (wholeValues (v .elements) (innerData v l))
 
 -- "a "new" child's parent has no entry, or a "replaced" child's parent is no object, has no entry of that id or has less
--- data than the former offset"
-abbrev pub orphaned : ParentEntry → Bool → ℕ → List Entry → Bool
-orphaned New object size es = eqb (length es) 0
-orphaned (Replaced id offset) object size es = not object || (not (ltb (seek id es) (length es)) || ltb size offset)
+-- data than the former offset"; A8, "a list's count stands for its entries": n is that count
+abbrev pub orphaned : ParentEntry → Bool → ℕ → ℕ → List Entry → Bool
+orphaned New object n size es = eqb (cond object (length es) n) 0
+orphaned (Replaced id offset) object n size es = not object || (not (ltb (seek id es) (length es)) || ltb size offset)
 
 -- "at roll back below the top level": two or more are open
 unfoldable pub damagedParent : View → Storage → Bool
 damagedParent v l =
-    ltb 1 (v .counts .depth) && (misplacedParent v l || orphaned (v .inner .parent) (v .parent .object) (parentSize v) (parentEntries v l))
+    ltb 1 (v .counts .depth)
+    && (misplacedParent v l || orphaned (v .inner .parent) (v .parent .object) (v .siblings) (parentSize v) (parentEntries v l))
 
 -- "Named calls, register and finish read all name ends; named calls also the innermost entries; close reads the innermost
--- entries and all name ends; roll back reads the parent's entries"
+-- entries and all name ends; roll back reads the parent's entries"; A8, "Where storage was altered and the data is not as many whole values as the
+-- list counts, close refuses with 1"
 abbrev pub misreadBy : View → Storage → Option Name → Bool
 misreadBy v l none = false
 misreadBy v l (some n) = fallenEnds v l || misplacedInner v l
@@ -69,7 +79,7 @@ abbrev pub misread : View → Storage → Call → Bool
 misread v l (register n) = fallenEnds v l
 misread v l (append nm x) = misreadBy v l nm
 misread v l (openIn nm k) = misreadBy v l nm
-misread v l close = fallenEnds v l || misplacedInner v l
+misread v l close = fallenEnds v l || (misplacedInner v l || uncounted v l)
 misread v l rollBack = damagedParent v l
 misread v l (uniqueness u) = false
 misread v l (finish out) = fallenEnds v l

@@ -139,12 +139,12 @@ fullFor lent ns none = false
 fullFor lent ns (some n) =
     leb (length ns) (place n ns) && not (ltb (length ns) (lent .ends) && fits (length (joined ns)) (length n) (lent .text))
 
--- a level's entries, and an open child's own among its parent's, unless it replaces one
+-- a level's entries, and an open child's own among its parent's, unless it replaces one; document 02, A8, "List elements shall take no entries"
 abbrev pub entryCount : List Name → Level → ℕ
-entryCount ns l = cond (l .object) (length (liveIds ns (l .items))) (itemCount (l .items))
+entryCount ns l = cond (l .object) (length (liveIds ns (l .items))) 0
 
 abbrev pub ownEntry : Option Name → Items → ℕ
-ownEntry none is = 1
+ownEntry none is = 0
 ownEntry (some n) is = cond (isLive n is) 0 1
 
 unfoldable pub entriesUsed : List Name → List Level → ℕ
@@ -152,8 +152,9 @@ entriesUsed ns [] = 0
 entriesUsed ns (l ∷ []) = entryCount ns l
 entriesUsed ns (l ∷ (p ∷ ls)) = entryCount ns l + (ownEntry (l .own) (p .items) + entriesUsed ns (p ∷ ls))
 
+-- A8, "number 13 is then left for objects"
 abbrev pub noEntryFree : Lent → History → Option Name → Bool
-noEntryFree lent h nm = (anyOpen (h .levels) && not (liveIn nm (h .levels))) && leb (roomFor (lent .entries)) (entriesUsed (h .names) (h .levels))
+noEntryFree lent h nm = (objectInner (h .levels) && not (liveIn nm (h .levels))) && leb (roomFor (lent .entries)) (entriesUsed (h .names) (h .levels))
 
 abbrev pub noBytesFree : Lent → List ℕ → ℕ → Bool
 noBytesFree lent sums size = not (fits (total sums) size (lent .value))

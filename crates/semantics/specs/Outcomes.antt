@@ -99,6 +99,7 @@ start u =
       builder =
           record {
             containers = replicate 64 junkContainer;
+            elements = replicate 64 99;
             counts = record { value = 0; entries = 0; depth = 0; dictionary = dictionary.fresh; unique = u; finished = false; floor = 1 };
           };
       storage = storageOf (replicate 11 0xee) (replicate 2 0xee) (replicate 2 99) (replicate 5 99);

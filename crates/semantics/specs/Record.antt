@@ -1,5 +1,5 @@
 -- The builder's record over its lent storage, and the calls.
-use mathlib.Core.Bool.{Bool, true, false, cond, _&&_}
+use mathlib.Core.Bool.{Bool, true, false, cond, not, _&&_, _||_}
 use mathlib.Core.List.{List, _++_}
 use mathlib.Core.Option.{Option}
 use Prim.Native.Nat.{ℕ, zero, suc, _+_, _-_}
@@ -14,6 +14,7 @@ use Rattle.packed_decimal.specs.PackedDecimal.{packedVariant}
 use Rattle.metadata.specs.Names.{Name, namesOf}
 use Rattle.container.specs.Entries.{entriesOf}
 use Rattle.container.specs.declared.Entry.{Entry}
+use Rattle.measure.specs.Measure.{dataIn}
 use Rattle.semantics.specs.declared.Builder.{Builder}
 use Rattle.semantics.specs.declared.Container.{Container}
 use Rattle.semantics.specs.declared.ParentEntry.the-variants.{New}
@@ -85,18 +86,39 @@ innermost ks d = cond (ltb 0 d) (containerAt ks (d - 1)) noContainer
 abbrev pub parentOf : List Container → ℕ → Container
 parentOf ks d = cond (ltb 1 d) (containerAt ks (d - 2)) noContainer
 
+-- document 02, A8, "a list's count": how many elements the container at depth d has, if it is a list, a child open in it among them
+abbrev pub elementsAt : List ℕ → ℕ → ℕ
+elementsAt ns d = getD ns d 0
+
+-- those of the innermost of d open containers, and of its parent
+abbrev pub innerElements : List ℕ → ℕ → ℕ
+innerElements ns d = cond (ltb 0 d) (elementsAt ns (d - 1)) 0
+
+abbrev pub parentElements : List ℕ → ℕ → ℕ
+parentElements ns d = cond (ltb 1 d) (elementsAt ns (d - 2)) 0
+
 -- a container's starting marks lie at or below those of another
 abbrev pub under : Container → Container → Bool
 under k l = leb (k .value) (l .value) && (leb (k .names) (l .names) && (leb (k .text) (l .text) && leb (k .entries) (l .entries)))
 
--- no starting mark falls from one of the first d + 1 containers to the next
-unfoldable pub rising : List Container → ℕ → Bool
-rising ks zero = true
-rising ks (suc d) = under (containerAt ks d) (containerAt ks (suc d)) && rising ks d
+-- A8, "a count above the list's data bytes, plus one for a child open in it, is 1 at every call": a list does not count more elements than the
+-- most that it can have; an object has no such count
+abbrev pub countable : Container → ℕ → ℕ → Bool
+countable k n most = k .object || leb n most
 
--- at most 64 are open, and no starting mark falls
-unfoldable pub chained : List Container → ℕ → Bool
-chained ks d = leb d 64 && rising ks (d - 1)
+-- a container of n elements with another open in it
+abbrev pub encloses : Container → ℕ → Container → Bool
+encloses k n l = under k l && countable k n (l .value - k .value + 1)
+
+-- no starting mark falls from one of the first d + 1 containers to the next, and no list of the first d, each with a child open in it, counts
+-- too much
+unfoldable pub rising : List Container → List ℕ → ℕ → Bool
+rising ks ns zero = true
+rising ks ns (suc d) = encloses (containerAt ks d) (elementsAt ns d) (containerAt ks (suc d)) && rising ks ns d
+
+-- at most 64 are open, no starting mark falls, and no list but the innermost counts too much
+unfoldable pub chained : List Container → List ℕ → ℕ → Bool
+chained ks ns d = leb d 64 && rising ks ns (d - 1)
 
 -- document 02, A10: "A fresh builder takes a floor of 1 to 4 bytes"
 abbrev pub goodFloor : ℕ → Bool
@@ -107,7 +129,14 @@ goodFloor floor = leb 1 floor && leb floor 4
 abbrev pub viewOf : Builder → View
 viewOf b =
     let d = b .counts .depth in
-    record { counts = b .counts; inner = innermost (b .containers) d; parent = parentOf (b .containers) d; chain = chained (b .containers) d }
+    record {
+      counts = b .counts;
+      inner = innermost (b .containers) d;
+      elements = innerElements (b .elements) d;
+      parent = parentOf (b .containers) d;
+      siblings = parentElements (b .elements) d;
+      chain = chained (b .containers) (b .elements) d;
+    }
 
 abbrev pub isOpen : View → Bool
 isOpen v = ltb 0 (v .counts .depth)
@@ -116,9 +145,16 @@ isOpen v = ltb 0 (v .counts .depth)
 abbrev pub inObject : View → Bool
 inObject v = isOpen v && v .inner .object
 
+-- or a list
+abbrev pub inList : View → Bool
+inList v = isOpen v && not (v .inner .object)
+
 -- document 01, "its container's data (which runs to the next container's start, or for the innermost to the used end)"
 abbrev pub innerSize : View → ℕ
 innerSize v = v .counts .value - v .inner .value
+
+abbrev pub innerData : View → Storage → List ℕ
+innerData v l = dataIn (v .inner .value) (v .counts .value) (l .value)
 
 abbrev pub parentSize : View → ℕ
 parentSize v = v .inner .value - v .parent .value

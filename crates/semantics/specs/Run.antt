@@ -25,6 +25,7 @@ pub record Fresh (b : Builder) : Type 0 where
   pub dictionary : b .counts .dictionary ≡ dictionary.fresh
   pub finished : b .counts .finished ≡ false
   pub containers : length (b .containers) ≡ 64
+  pub elements : length (b .elements) ≡ 64
   pub floor : goodFloor (b .counts .floor) ≡ true
 
 -- the counts that a maker gives

@@ -19,7 +19,7 @@ use Rattle.semantics.specs.declared.Counts.{Counts}
 use Rattle.semantics.specs.declared.ParentEntry.{ParentEntry}
 use Rattle.semantics.specs.declared.ParentEntry.the-variants.{New, Replaced}
 use Rattle.semantics.specs.declared.View.{View}
-use Rattle.semantics.specs.Record.{Storage, storageOf, State, Scalars, Call, register, append, openIn, close, rollBack, uniqueness, finish, scalarOf, viewOf, innerSize, innerEntries, parentEntries, namesHeld, uniqueNow}
+use Rattle.semantics.specs.Record.{Storage, storageOf, State, Scalars, Call, register, append, openIn, close, rollBack, uniqueness, finish, scalarOf, viewOf, inList, innerSize, innerEntries, parentEntries, namesHeld, uniqueNow}
 use Rattle.semantics.specs.Table.{idOf, held, liveUnder, newEntry, header, numberOf}
 
 -- ---- a name given: "a name not yet held goes last"
@@ -38,7 +38,7 @@ endsWith v l (some n) = cond (held v l n) (l .ends) (set (l .ends) (fieldNames (
 
 -- ---- the next value's entry in the innermost container
 
--- left free by document 01: the id in a list's entry. It is 0.
+-- of the name given; without one, which an object refuses (5), there is no entry
 abbrev pub idFor : View → Storage → Option Name → ℕ
 idFor v l none = 0
 idFor v l (some n) = idOf v l n
@@ -47,7 +47,8 @@ idFor v l (some n) = idOf v l n
 abbrev pub placeFor : View → Storage → Option Name → ℕ
 placeFor v l nm = v .inner .entries + seek (idFor v l nm) (innerEntries v l)
 
--- "A second field of a live name, where uniqueness is off, moves that name's offset"; any other is a new entry
+-- "A second field of a live name, where uniqueness is off, moves that name's offset"; any other field is a new entry. Document 02, A8, "List elements
+-- shall take no entries".
 abbrev pub entriesWith : View → Storage → Option Name → List ℕ
 entriesWith v l nm =
     cond (newEntry v l nm) (setEntry (l .entries) (v .counts .entries) (record { id = idFor v l nm; offset = innerSize v }))
@@ -127,14 +128,14 @@ closed v l =
       storage = storageOf (fronted (k .value) (c .value) (header v l) (l .value)) (l .text) (l .ends) (entriesClosed v l);
     }
 
--- "Rolling back such a child brings the former offset again; rolling back a new one .. takes its parent's last entry away"
+-- "Rolling back such a child brings the former offset again; rolling back a new one .. takes its parent's last entry away"; a list's has none
 abbrev pub entriesBack : View → Storage → ParentEntry → List ℕ
 entriesBack v l New = l .entries
 entriesBack v l (Replaced id offset) = set (l .entries) (2 * (v .parent .entries + seek id (parentEntries v l)) + 1) offset
 
-abbrev pub countBack : ℕ → ParentEntry → ℕ
-countBack n New = n - 1
-countBack n (Replaced id offset) = n
+abbrev pub countBack : Bool → ℕ → ParentEntry → ℕ
+countBack object n New = cond object (n - 1) n
+countBack object n (Replaced id offset) = n
 
 -- left free by document 01: the freed entries, names and name bytes after a roll back. They are as they were.
 unfoldable pub rolledBack : View → Storage → Left
@@ -142,8 +143,9 @@ rolledBack v l =
     let c = v .counts in
     let k = v .inner in
     let below = ltb 1 (c .depth) in
+    let entries = cond below (countBack (v .parent .object) (k .entries) (k .parent)) (k .entries) in
     record {
-      counts = withCounts c (k .value) (cond below (countBack (k .entries) (k .parent)) (k .entries)) (c .depth - 1) (fromParts (k .names) (k .text));
+      counts = withCounts c (k .value) entries (c .depth - 1) (fromParts (k .names) (k .text));
       storage = storageOf (l .value) (l .text) (l .ends) (cond below (entriesBack v l (k .parent)) (l .entries));
     }
 
@@ -177,6 +179,27 @@ containersAfter v l close ks = ks
 containersAfter v l rollBack ks = ks
 containersAfter v l (uniqueness u) ks = set ks (v .counts .depth - 1) (withUnique (v .inner) u)
 containersAfter v l (finish out) ks = ks
+
+-- ---- the elements of the open lists: document 02, A8, "a list's count stands for its entries"
+
+-- a value enters: of a list it is one element more
+abbrev pub elementsWith : View → List ℕ → List ℕ
+elementsWith v ns = cond (inList v) (set ns (v .counts .depth - 1) (v .elements + 1)) ns
+
+-- a new child rolled back: its list has one element less
+abbrev pub elementsBack : View → ParentEntry → List ℕ → List ℕ
+elementsBack v New ns = cond (v .parent .object) ns (set ns (v .counts .depth - 2) (v .siblings - 1))
+elementsBack v (Replaced id offset) ns = ns
+
+-- left free: those of objects, which are 0 at their opening and stay so, and those beyond the depth, which are as they were
+abbrev pub elementsAfter : View → Call → List ℕ → List ℕ
+elementsAfter v (register n) ns = ns
+elementsAfter v (append nm x) ns = elementsWith v ns
+elementsAfter v (openIn nm object) ns = set (elementsWith v ns) (v .counts .depth) 0
+elementsAfter v close ns = ns
+elementsAfter v rollBack ns = cond (ltb 1 (v .counts .depth)) (elementsBack v (v .inner .parent) ns) ns
+elementsAfter v (uniqueness u) ns = ns
+elementsAfter v (finish out) ns = ns
 
 abbrev pub outputOf : View → Storage → Call → List ℕ
 outputOf v l (register n) = []
@@ -221,7 +244,12 @@ after s c =
     let v = viewOf (s .builder) in
     let l = s .storage in
     record {
-      builder = record { containers = containersAfter v l c (s .builder .containers); counts = carriedOut v l c .counts };
+      builder =
+          record {
+            containers = containersAfter v l c (s .builder .containers);
+            elements = elementsAfter v c (s .builder .elements);
+            counts = carriedOut v l c .counts;
+          };
       storage = carriedOut v l c .storage;
     }
 

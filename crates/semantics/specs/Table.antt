@@ -18,8 +18,9 @@ use Rattle.metadata.specs.Calls.{hasRoom}
 use Rattle.container.specs.Entries.{idsOf, offsetsOf, roomFor, seek}
 use Rattle.container.specs.Layout.{listHeader, objectHeader}
 use Rattle.container.specs.Sort.{sort}
+use Rattle.measure.specs.Measure.{startsIn}
 use Rattle.semantics.specs.declared.View.{View}
-use Rattle.semantics.specs.Record.{Storage, Scalars, fixed, civil, packed, bytes, uuid, Call, register, append, openIn, close, rollBack, uniqueness, finish, scalarOf, goodFloor, isOpen, inObject, innerSize, innerEntries, namesHeld, uniqueNow}
+use Rattle.semantics.specs.Record.{Storage, Scalars, fixed, civil, packed, bytes, uuid, Call, register, append, openIn, close, rollBack, uniqueness, finish, scalarOf, goodFloor, isOpen, inObject, innerSize, innerData, innerEntries, namesHeld, uniqueNow}
 use Rattle.semantics.specs.Damage.{misreadBy, misread, damaged}
 
 -- ---- the rows' tests
@@ -70,9 +71,10 @@ abbrev pub namesFull : View → Storage → Option Name → Bool
 namesFull v l none = false
 namesFull v l (some n) = not (held v l n) && not (hasRoom (v .counts .dictionary) (l .text) (l .ends) n)
 
--- 13, "a new entry in an open container, and no entry is free"
+-- 13, "a new entry in an open container, and no entry is free"; document 02, A8, "List elements shall take no entries; number 13 is then left for
+-- objects"
 abbrev pub newEntry : View → Storage → Option Name → Bool
-newEntry v l nm = isOpen v && not (liveUnder v l nm)
+newEntry v l nm = inObject v && not (liveUnder v l nm)
 
 abbrev pub entriesFull : View → Storage → Option Name → Bool
 entriesFull v l nm = newEntry v l nm && leb (roomFor (length (l .entries))) (v .counts .entries)
@@ -81,13 +83,14 @@ entriesFull v l nm = newEntry v l nm && leb (roomFor (length (l .entries))) (v .
 abbrev pub tooLong : View → Storage → ℕ → Bool
 tooLong v l size = not (fits (v .counts .value) size (length (l .value)))
 
--- the innermost's header
+-- the innermost's header; of a list, A8, "its offsets can be had again by walking it at close"
 unfoldable pub header : View → Storage → List ℕ
 header v l =
     let es = innerEntries v l in
     let sorted = sort (namesHeld v l) es in
     let floor = v .counts .floor in
-    cond (v .inner .object) (objectHeader floor (idsOf sorted) (offsetsOf sorted) (innerSize v)) (listHeader floor (offsetsOf es) (innerSize v))
+    cond (v .inner .object) (objectHeader floor (idsOf sorted) (offsetsOf sorted) (innerSize v))
+    (listHeader floor (startsIn (v .elements) 0 (innerData v l)) (innerSize v))
 
 -- ---- the table
 

@@ -52,17 +52,22 @@ pub struct Counts {
     pub floor: usize,
 }
 
+// Beside each container its elements: how many values a list holds, a child open in it among them; of an object free.
 pub struct Builder {
     pub containers: [Container; 64],
+    pub elements: [usize; 64],
     pub counts: Counts,
 }
 
-// What a call sees of the record: the counts, the innermost open container and its parent, and whether at most 64 are open
-// and no starting mark falls from one of them to the next.
+// What a call sees of the record: the counts; the innermost open container and its elements; its parent and the parent's elements, the
+// innermost among them; and whether at most 64 are open, no starting mark falls from one of them to the next, and no list with a child open
+// in it counts more than it can hold.
 pub struct View {
     pub counts: Counts,
     pub inner: Container,
+    pub elements: usize,
     pub parent: Container,
+    pub siblings: usize,
     pub chain: bool,
 }
 

@@ -1,13 +1,14 @@
 // The headers of a few lists and objects: for each its size and its first 16 bytes.
-// The file `stdout` was not made by this program but by a model of document 01 written apart from this code.
+// The file `stdout` was not made by this program but by the model, written apart from this code.
 use container::Closed;
 use container::Entry;
 use container::Frame;
-use container::close_list;
 use container::close_object;
 use container::put_entry;
 use container::search_entries;
+use encoding::slices::write_slice;
 use libc::STDOUT_FILENO;
+use list::close_list;
 use metadata::MetadataBuilder;
 use metadata::add_field_name;
 
@@ -16,6 +17,8 @@ fn main() {
     list(b"list of 1 nulls", 1);
     list(b"list of 255 nulls", 255);
     list(b"list of 256 nulls", 256);
+    lists();
+    no_lists();
     no_fields(b"object of no fields");
     object(b"object of one null, id 0", 0);
     object(b"object of one null, id 255", 255);
@@ -24,22 +27,49 @@ fn main() {
     two_fields(b"object of b = int8 1, a = int8 2");
 }
 
+// Lists of other values.
+fn lists() {
+    values(
+        b"list of a null, int8 7, text ab",
+        b"\x00\x0c\x07\x09ab",
+        3,
+        1,
+    );
+    values(
+        b"list of a list, an object, a large list",
+        b"\x03\x01\x00\x01\x00\x02\x01\x00\x00\x01\x00\x13\x01\x00\x00\x00\x00\x01\x00",
+        3,
+        1,
+    );
+    values(b"list of one null, floor 3", b"\x00", 1, 3);
+}
+
+// Data that is not as many values as counted.
+fn no_lists() {
+    values(b"list of a type code 21", b"\x54", 1, 1);
+    values(b"list of two nulls, counted one", b"\x00\x00", 1, 1);
+    values(
+        b"list of a count that overflows",
+        b"\x42\xff\xff\xff\xff\x00",
+        1,
+        1,
+    );
+}
+
 // n nulls: each is one byte, 00.
 fn list(label: &[u8], n: usize) {
     let mut value = [0u8; 1024];
-    let mut entries = [0usize; 512];
-    noted(&mut entries, n);
-    let closed = close_list(frame(n, n), &mut value, &entries);
+    let closed = close_list(0, n, n, 1, &mut value);
     line(label, closed, n, &value);
 }
 
-// An entry for each of n elements of one byte.
-fn noted(entries: &mut [usize], n: usize) {
-    let mut i = 0;
-    while i < n {
-        put_entry(entries, i, Entry { id: 0, offset: i });
-        i += 1;
-    }
+// A list with this data and count.
+fn values(label: &[u8], data: &[u8], count: usize, floor: usize) {
+    let mut value = [0u8; 64];
+    write_slice(&mut value, 0, data);
+    let size = data.len();
+    let closed = close_list(0, size, count, floor, &mut value);
+    line(label, closed, size, &value);
 }
 
 fn no_fields(label: &[u8]) {

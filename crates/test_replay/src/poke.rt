@@ -22,12 +22,15 @@ pub fn altered(b: Builder, h: Header, operand: &[u8]) -> Builder {
     let n = number(operand, 0);
     let c = b.counts;
     let cs = b.containers;
+    let ns = b.elements;
     match which {
         0..=7 | 20 => Builder {
             containers: cs,
+            elements: ns,
             counts: counts(c, which, n),
         },
         8..=15 => contained(b, which, h.size, n, number(operand, 8)),
+        21 => elements(b, h.size, n),
         _ => b,
     }
 }
@@ -57,8 +60,24 @@ fn contained(b: Builder, which: u8, i: usize, n: usize, m: usize) -> Builder {
         let k = cs[i];
         cs[i] = container(k, which, n, m);
     }
+    let ns = b.elements;
     Builder {
         containers: cs,
+        elements: ns,
+        counts: c,
+    }
+}
+
+fn elements(b: Builder, i: usize, n: usize) -> Builder {
+    let c = b.counts;
+    let cs = b.containers;
+    let mut ns = b.elements;
+    if i < 64 {
+        ns[i] = n;
+    }
+    Builder {
+        containers: cs,
+        elements: ns,
         counts: c,
     }
 }

@@ -9,8 +9,9 @@ const COUNTS: [(&str, usize); 5] = [("value_used", 0), ("names_used", 3), ("name
 const UNIQUE_MARK: usize = 5;
 const FINISHED: usize = 6;
 const FLOOR: usize = 7;
-/// Where the containers begin.
+/// Where the containers begin, and behind them a word for each: how many elements it has, if it is a list.
 const CONTAINERS: usize = 8;
+const ELEMENTS: usize = CONTAINERS + 9 * 64;
 const VALUE: usize = 0;
 const OPEN: usize = 2;
 const NAMES: usize = 3;
@@ -37,8 +38,9 @@ pub fn poke(b: &mut VariantBuilder, words: &[&str]) -> Expected<()> {
         mark(rest, 0)?;
     } else if what == "container" {
         let i = number(rest, 0)?;
-        let nine = b.words_mut().get_mut(CONTAINERS..).and_then(|w| w.chunks_mut(9).nth(i)).ok_or("a container from 0 to 63")?;
-        container(nine, &rest[1..])?;
+        let (counts_and_containers, elements) = b.words_mut().split_at_mut(ELEMENTS);
+        let nine = counts_and_containers[CONTAINERS..].chunks_mut(9).nth(i).ok_or("a container from 0 to 63")?;
+        container(nine, &mut elements[i], &rest[1..])?;
     } else {
         storage(b.storage_mut(), what, rest)?;
     }
@@ -75,14 +77,15 @@ fn entry(words: &[&str], at: usize) -> Expected<[usize; 3]> {
     }
 }
 
-/// A container's nine words, or some of them; all is read before any is written.
-fn container(nine: &mut [usize], words: &[&str]) -> Expected<()> {
+/// A container's nine words, or some of them, or its elements; all is read before any is written.
+fn container(nine: &mut [usize], elements: &mut usize, words: &[&str]) -> Expected<()> {
     let key = given(words, 0)?;
     if let Some(at) = STARTS.iter().position(|s| *s == key) {
         nine[at] = number(words, 1)?;
         return Ok(());
     }
     match key {
+        "count" => *elements = number(words, 1)?,
         "kind" => nine[OBJECT] = kind(words, 1)?,
         "unique" => nine[UNIQUE] = mark(words, 1)?,
         "entry" => nine[ENTRY..OBJECT].copy_from_slice(&entry(words, 1)?),
@@ -95,8 +98,9 @@ fn container(nine: &mut [usize], words: &[&str]) -> Expected<()> {
             all[UNIQUE] = mark(words, 6)?;
             all[ENTRY..OBJECT].copy_from_slice(&entry(words, 7)?);
             nine.copy_from_slice(&all);
+            *elements = 0;
         }
-        _ => return Err(format!("value, names, namebytes, entries, kind, unique, entry or all for {key:?}")),
+        _ => return Err(format!("value, names, namebytes, entries, count, kind, unique, entry or all for {key:?}")),
     }
     Ok(())
 }
@@ -134,7 +138,7 @@ pub fn dump(b: &mut VariantBuilder, out: &mut String) {
     let flag = |at: usize| u8::from(words[at] != 0);
     write!(out, " unique={} sorted=- finished={} floor={}", flag(UNIQUE_MARK), flag(FINISHED), words[FLOOR]).unwrap_or_default();
     for i in 0..words[OPEN].min(64) {
-        dump_container(i, &words[place(i)..place(i + 1)], out);
+        dump_container(i, &words[place(i)..place(i + 1)], words[ELEMENTS + i], out);
     }
     let s = b.storage_mut();
     if broken(&words, &s) {
@@ -145,7 +149,7 @@ pub fn dump(b: &mut VariantBuilder, out: &mut String) {
     out.push('\n');
 }
 
-fn dump_container(i: usize, nine: &[usize], out: &mut String) {
+fn dump_container(i: usize, nine: &[usize], elements: usize, out: &mut String) {
     let kind = if nine[OBJECT] != 0 { "object" } else { "list" };
     let [value, names, text, entries] = [nine[0], nine[1], nine[2], nine[3]];
     write!(out, " c{i}={kind}:{value},{names},{text},{entries}:{}:", u8::from(nine[UNIQUE] != 0)).unwrap_or_default();
@@ -153,6 +157,10 @@ fn dump_container(i: usize, nine: &[usize], out: &mut String) {
         (0, _) => out.push('-'),
         (_, 0) => out.push_str("new"),
         _ => write!(out, "replaced,{},{}", nine[ENTRY + 1], nine[ENTRY + 2]).unwrap_or_default(),
+    }
+    match nine[OBJECT] {
+        0 => write!(out, ":count={elements}").unwrap_or_default(),
+        _ => out.push_str(":count=-"),
     }
 }
 
@@ -174,7 +182,16 @@ fn broken(words: &[usize], s: &Storage) -> bool {
         low.copy_from_slice(starts);
     }
     let ends = &s.ends[..used[1]];
-    exceeds(&low, &used) || !ends.is_sorted() || ends.last().copied().unwrap_or(0) != used[2]
+    exceeds(&low, &used) || miscounted(words) || !ends.is_sorted() || ends.last().copied().unwrap_or(0) != used[2]
+}
+
+/// Whether an open list counts more elements than its data has bytes, and one more for a child open in it. The starting marks are in order.
+fn miscounted(words: &[usize]) -> bool {
+    (0..words[OPEN]).any(|i| {
+        let child = i + 1 < words[OPEN];
+        let end = if child { words[place(i + 1)] } else { words[VALUE] };
+        words[place(i) + OBJECT] == 0 && words[ELEMENTS + i] > end - words[place(i)] + usize::from(child)
+    })
 }
 
 fn dump_storage(words: &[usize], s: &Storage, out: &mut String) {
@@ -189,15 +206,16 @@ fn dump_storage(words: &[usize], s: &Storage, out: &mut String) {
     }
     for i in 0..words[OPEN] {
         write!(out, " e{i}=").unwrap_or_default();
+        if words[place(i) + OBJECT] == 0 {
+            out.push('-');
+            continue;
+        }
         let first = words[place(i) + 3];
         let end = if i + 1 < words[OPEN] { words[place(i + 1) + 3] } else { words[1] };
         for k in first..end {
             out.push_str(if k == first { "" } else { "," });
             let (id, offset) = (s.entries[2 * k], s.entries[2 * k + 1]);
-            match words[place(i) + OBJECT] {
-                0 => write!(out, "-@{offset}").unwrap_or_default(),
-                _ => write!(out, "{id}@{offset}").unwrap_or_default(),
-            }
+            write!(out, "{id}@{offset}").unwrap_or_default();
         }
     }
 }

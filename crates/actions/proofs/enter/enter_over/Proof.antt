@@ -2,12 +2,16 @@
 use borrow.Author.Needs.{needs}
 use native.Mathlib.Omega.{arith}
 use Rattle.semantics.specs.Record.{storageOf}
-use Rattle.actions.proofs.EnterLaws.{entered-refused, enters, enters-bounds}
+use Rattle.actions.proofs.EnterLaws.{elements-bound, entered-refused, enters, enters-bounds}
 use Rattle.actions.proofs.enter.enter_over.Statement.{statement}
 use Rattle.actions.proofs.enter.enter_over.Tie as tie
 
 returns : tie.Need-returns
-returns c = let a = c .before .before .before .before .before .before .before .before .before .before .before .before .args in entered-refused (a .opens) (a .size) (c .before .before .before .before .enter-number .ensures) (c .before .before .unique-now .ensures) (c .if1 .taken)
+returns c =
+    let i = c .before in
+    let e = i .before .before .before .before in
+    let a = e .before .before .before .before .before .before .before .before .args in
+    rw (c .unentered .ensures) (entered-refused (a .opens) (a .size) (e .enter-number .ensures) (i .before .before .unique-now .ensures) (i .if1 .taken))
 
 counts-with-requires : tie.Need-counts-with-requires
 counts-with-requires c κs =
@@ -19,21 +23,31 @@ counts-with-requires c κs =
     let g = s .good .1 .1 .1 .1 .0 in
     enters-bounds (a .v) l (a .named) (a .name .now) (a .into) (a .opens) (a .own) (a .size) (e .enter-number .ensures) (i .before .before .unique-now .ensures) (i .if1 .left) (omega arith)
 
+one-more-requires : tie.Need-one-more-requires
+one-more-requires c κs =
+    let i = c .before .before .before .before .before .before .before .before .before .before .before .before .before in
+    let e = i .before .before .before .before in
+    let a = e .before .before .before .before .before .before .before .before .args in
+    elements-bound (a .v) (storageOf (a .value .now) (a .text .now) (a .ends .now) (a .entries .now)) (a .named) (a .name .now) (a .into) (a .opens) (a .own) (a .size)
+    (e .enter-number .ensures) (i .before .before .unique-now .ensures) (i .if1 .left)
+
 returns-2 : tie.Need-returns-2
 returns-2 c =
-    let k = c .before in
+    let m = c .before in
+    let k = m .before in
     let s = k .before .before .before in
     let n = s .before .before .before .before .before in
     let i = n .before .before .before .before .before in
     let e = i .before .before .before .before in
     let a = e .before .before .before .before .before .before .before .before .args in
     enters (a .v) (storageOf (a .value .now) (a .text .now) (a .ends .now) (a .entries .now)) (a .named) (a .name .now) (a .into) (a .opens) (a .own) (a .size)
-    (e .enter-number .ensures) (i .before .before .unique-now .ensures) (i .if1 .left) (n .with-name .ensures) (s .saturating-sub .ensures) (k .counts-with .ensures) (c .place-of .ensures)
+    (e .enter-number .ensures) (i .before .before .unique-now .ensures) (i .if1 .left) (n .with-name .ensures) (s .saturating-sub .ensures) (k .counts-with .ensures) (m .one-more .ensures) (c .place-of .ensures)
 
 pub enter-over-spec : {M : Type 1} → statement M
 enter-over-spec =
     tie.close
     (tie.spec
+    (λ c κs. search needs)
     (λ c κs. search needs)
     (λ c κs. search needs)
     (λ c. search needs)
@@ -42,6 +56,7 @@ enter-over-spec =
     (λ c κs. search needs)
     (λ c κs. search needs)
     counts-with-requires
+    one-more-requires
     (λ c κs. search needs)
     (λ c. search needs)
     (λ c. search needs)

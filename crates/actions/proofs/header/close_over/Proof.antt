@@ -1,5 +1,8 @@
 use borrow.Author.Needs.{needs}
-use Rattle.actions.proofs.CloseLaws.{Closable, closable, closes-early, leaves-closed, leaves-none, undamaged}
+use mathlib.Core.Path.{ap}
+use native.Mathlib.Omega.{arith}
+use Rattle.container.specs.Close.{closedNumber}
+use Rattle.actions.proofs.CloseLaws.{Closable, closable, closes-early, leaves-closed, leaves-refused}
 use Rattle.semantics.specs.Record.{storageOf}
 use Rattle.actions.proofs.header.close_over.Statement.{statement}
 use Rattle.actions.proofs.header.close_over.Tie as tie
@@ -24,10 +27,14 @@ returns-2 c =
     leaves-closed (left (h .before .before .before)) (h .put-header .ensures) (r .r .given .1)
 
 returns-3 : tie.Need-returns-3
-returns-3 c = let h = c .before .before .before .before .before .before in absurd (undamaged (left (h .before .before .before)) (h .put-header .ensures) (c .enum-told .given .1))
+returns-3 c =
+    let h = c .before .before .before .before .before .before in
+    leaves-refused (left (h .before .before .before)) (h .put-header .ensures) (ap closedNumber (c .enum-told .given .1)) (λ e. omega arith)
 
 returns-4 : tie.Need-returns-4
-returns-4 c = let h = c .before .before .before .before .before .before in leaves-none (left (h .before .before .before)) (h .put-header .ensures) (c .enum-told2 .given .1)
+returns-4 c =
+    let h = c .before .before .before .before .before .before in
+    leaves-refused (left (h .before .before .before)) (h .put-header .ensures) (ap closedNumber (c .enum-told2 .given .1)) (λ e. omega arith)
 
 pub close-over-spec : {M : Type 1} → statement M
 close-over-spec =

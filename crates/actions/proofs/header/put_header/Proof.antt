@@ -10,7 +10,7 @@ returns c =
     fronts-object (t .if1 .taken) (t .before .before .before .before .before .pre) (o .close-object .ensures)
 
 returns-2 : tie.Need-returns-2
-returns-2 c = fronts-list (c .before .before .before .before .before .if1 .left) (c .before .before .close-list .ensures)
+returns-2 c = let l = c .before .before in fronts-list (l .before .before .if1 .left) (l .close-list .ensures)
 
 pub put-header-spec : {M : Type 1} → statement M
 put-header-spec =
@@ -21,6 +21,5 @@ put-header-spec =
     (λ c. search needs)
     returns
     (λ c κs. search needs)
-    (λ c. search needs)
     (λ c. search needs)
     returns-2)

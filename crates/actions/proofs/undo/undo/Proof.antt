@@ -8,7 +8,7 @@ returns : tie.Need-returns
 returns c = rw (not-true (c .before .before .args .below) (c .if1 .taken)) (refl, refl)
 
 returns-2 : tie.Need-returns-2
-returns-2 c = let i = c .before .before .before in rw (not-false (i .before .before .args .below) (i .if1 .left), c .before .enum-told .given .1) (c .saturating-sub .ensures, refl)
+returns-2 c = let i = c .before .before .before in rw (not-false (i .before .before .args .below) (i .if1 .left), c .before .enum-told .given .1) (c .one-less .ensures, refl)
 
 returns-3 : tie.Need-returns-3
 returns-3 c =

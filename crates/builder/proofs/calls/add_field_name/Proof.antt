@@ -10,7 +10,7 @@ returns c =
     let r = c .before .before .before .before .before in
     let v = r .before .before .before in
     let a = v .before .before .before .before .before .before .args in
-    does-moved (a .b) (storageOf (a .value .now) (a .text .now) (a .ends .now) (a .entries .now)) (register (a .name .now)) refl (v .view-of .ensures) (r .register .ensures) (c .called .ensures)
+    does-moved (a .b) (storageOf (a .value .now) (a .text .now) (a .ends .now) (a .entries .now)) (register (a .name .now)) refl tt (v .view-of .ensures) (r .register .ensures) (c .called .ensures)
 
 pub add-field-name-spec : {M : Type 1} → statement M
 add-field-name-spec =

@@ -11,7 +11,7 @@ returns c =
     let r = c .before .before .before .before .before .before .before .before .before in
     let v = r .before .before .before .before .before in
     let a = v .before .before .before .before .before .before .before .args in
-    does-moved (a .b) (storageOf (a .value .now) (a .text .now) (a .ends .now) (a .entries .now)) (append (nameOf (a .named) (a .name .now)) (packed (a .scale) (a .bytes .now))) refl (v .view-of .ensures) (r .append-packed-over .ensures) (c .called .ensures)
+    does-moved (a .b) (storageOf (a .value .now) (a .text .now) (a .ends .now) (a .entries .now)) (append (nameOf (a .named) (a .name .now)) (packed (a .scale) (a .bytes .now))) refl tt (v .view-of .ensures) (r .append-packed-over .ensures) (c .called .ensures)
 
 pub append-packed-spec : {M : Type 1} → statement M
 append-packed-spec =

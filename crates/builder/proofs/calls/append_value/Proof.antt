@@ -11,7 +11,7 @@ returns c =
     let r = c .before .before .before .before .before .before .before .before .before in
     let v = r .before .before .before .before .before in
     let a = v .before .before .before .before .before .before .args in
-    does-moved (a .b) (storageOf (a .value .now) (a .text .now) (a .ends .now) (a .entries .now)) (append (nameOf (a .named) (a .name .now)) (fixed (a .x))) refl (v .view-of .ensures) (r .append-value-over .ensures) (c .called .ensures)
+    does-moved (a .b) (storageOf (a .value .now) (a .text .now) (a .ends .now) (a .entries .now)) (append (nameOf (a .named) (a .name .now)) (fixed (a .x))) refl tt (v .view-of .ensures) (r .append-value-over .ensures) (c .called .ensures)
 
 pub append-value-spec : {M : Type 1} → statement M
 append-value-spec =

@@ -6,7 +6,7 @@ use Rattle.builder.proofs.calls.finish.Tie as tie
 
 returns : tie.Need-returns
 returns c =
-    let r = c .before .before .before .before .before in
+    let r = c .before .before .before .before .before .before in
     let v = r .before .before in
     let a = v .before .before .before .before .before .before .args in
     does-finished (a .b) (storageOf (a .value .now) (a .text .now) (a .ends .now) (a .entries .now)) (a .out .now) (v .view-of .ensures) (r .finish-over .ensures) (rw (c .finish-answer .ensures))

@@ -10,7 +10,7 @@ returns c =
     let r = c .before .before .before in
     let v = r .before .before in
     let a = v .before .before .before .before .before .args in
-    does-moved (a .b) (storageOf (a .value .now) (a .text .now) (a .ends .now) (a .entries .now)) rollBack refl (v .view-of .ensures) (r .rollback-over .ensures) (c .called .ensures)
+    does-moved (a .b) (storageOf (a .value .now) (a .text .now) (a .ends .now) (a .entries .now)) rollBack refl tt (v .view-of .ensures) (r .rollback-over .ensures) (c .called .ensures)
 
 pub rollback-spec : {M : Type 1} → statement M
 rollback-spec =

@@ -14,24 +14,24 @@ returns c =
 
 sub-called-with : tie.Need-sub-called-with
 sub-called-with c =
-    let r = c .before .before .before .before in
-    let v = r .before in
-    let a = v .before .before .before .before .before .args in
-    unique-inside (a .b) (storageOf (a .value .now) (a .text .now) (a .ends .now) (a .entries .now)) (a .unique) (v .view-of .ensures) (r .unique-over .ensures) (c .before .before .before .if1 .left) .0
-
-called-with-requires : tie.Need-called-with-requires
-called-with-requires c κs =
-    let r = c .before .before .before .before in
-    let v = r .before in
-    let a = v .before .before .before .before .before .args in
-    omega (arith, unique-inside (a .b) (storageOf (a .value .now) (a .text .now) (a .ends .now) (a .entries .now)) (a .unique) (v .view-of .ensures) (r .unique-over .ensures) (c .before .before .before .if1 .left))
-
-returns-2 : tie.Need-returns-2
-returns-2 c =
     let r = c .before .before .before .before .before in
     let v = r .before in
     let a = v .before .before .before .before .before .args in
-    unique-done (a .b) (storageOf (a .value .now) (a .text .now) (a .ends .now) (a .entries .now)) (a .unique) (v .view-of .ensures) (r .unique-over .ensures) (c .before .before .before .before .if1 .left) (c .called-with .ensures)
+    unique-inside (a .b) (storageOf (a .value .now) (a .text .now) (a .ends .now) (a .entries .now)) (a .unique) (v .view-of .ensures) (r .unique-over .ensures) (c .before .before .before .before .if1 .left) .0
+
+called-with-requires : tie.Need-called-with-requires
+called-with-requires c κs =
+    let r = c .before .before .before .before .before in
+    let v = r .before in
+    let a = v .before .before .before .before .before .args in
+    omega (arith, unique-inside (a .b) (storageOf (a .value .now) (a .text .now) (a .ends .now) (a .entries .now)) (a .unique) (v .view-of .ensures) (r .unique-over .ensures) (c .before .before .before .before .if1 .left))
+
+returns-2 : tie.Need-returns-2
+returns-2 c =
+    let r = c .before .before .before .before .before .before in
+    let v = r .before in
+    let a = v .before .before .before .before .before .args in
+    unique-done (a .b) (storageOf (a .value .now) (a .text .now) (a .ends .now) (a .entries .now)) (a .unique) (v .view-of .ensures) (r .unique-over .ensures) (c .before .before .before .before .before .if1 .left) (c .called-with .ensures)
 
 pub with-validate-unique-fields-spec : {M : Type 1} → statement M
 with-validate-unique-fields-spec =

@@ -8,25 +8,25 @@ use Rattle.builder.proofs.view.chain_of.Statement.{statement}
 use Rattle.builder.proofs.view.chain_of.Tie as tie
 
 abbrev Inv-loop : tie.InvT-loop
-Inv-loop d cs ok₀ i₀ ok i = Rises (rising cs i₀) cs ok i
+Inv-loop d cs ns ok₀ i₀ ok i = Rises (rising cs ns i₀) cs ns ok i
 
 abbrev μ-loop : tie.MeasureT-loop
-μ-loop d cs ok₀ i₀ ok i = i
+μ-loop d cs ns ok₀ i₀ ok i = i
 
 returns : tie.Need-returns Inv-loop μ-loop
-returns c = chain-far _ _ (omega arith)
+returns c = chain-far _ _ _ (omega arith)
 
 returns-2 : tie.Need-returns-2 Inv-loop μ-loop
-returns-2 c = chain-none _ _ (omega arith)
+returns-2 c = chain-none _ _ _ (omega arith)
 
 loop-holds : tie.Need-loop-holds Inv-loop μ-loop
 loop-holds c = record { same = refl; low = omega arith }
 
 loop-again : tie.Need-loop-again Inv-loop μ-loop
-loop-again c = rises-again (c .before .before .before .before .loop .inv) (omega arith) (c .under .ensures)
+loop-again c = rises-again (c .before .before .before .before .loop .inv) (omega arith) (c .encloses .ensures)
 
 returns-3 : tie.Need-returns-3 Inv-loop μ-loop
-returns-3 c = rises-end (c .before .loop .inv) (omega arith) ∙ chain-some _ _ (omega arith)
+returns-3 c = rises-end (c .before .loop .inv) (omega arith) ∙ chain-some _ _ _ (omega arith)
 
 pub chain-of-spec : {M : Type 1} → statement M
 chain-of-spec =
@@ -43,6 +43,8 @@ chain-of-spec =
     (λ c. omega arith)
     (λ c. omega (arith, c .before .before .loop .inv .low))
     (λ c. omega (arith, c .before .before .loop .inv .low))
+    (λ c. omega (arith, c .before .before .before .loop .inv .low))
+    (λ c. omega (arith, c .before .before .before .loop .inv .low))
     (λ c κs. search needs)
     (λ c. omega arith)
     loop-again

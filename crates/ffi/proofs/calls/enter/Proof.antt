@@ -2,6 +2,7 @@ use borrow.Author.Needs.{needs}
 use Rattle.semantics.specs.Record.{storageOf}
 use Rattle.refusals.specs.Decide.{nameOf}
 use Rattle.ffi.proofs.CallLaws.{enters-done, enters-refused}
+use Rattle.ffi.proofs.WordLaws.{puts-inner}
 use Rattle.ffi.proofs.calls.enter.Statement.{statement}
 use Rattle.ffi.proofs.calls.enter.Tie as tie
 
@@ -9,20 +10,23 @@ returns : tie.Need-returns
 returns c =
     let e = c .before .before .before .before .before .before in
     let h = e .before .before .before in
-    let n = h .before .before .before .before .before .before in
+    let p = h .before .before .before .before .before .before in
+    let n = p .before .before .before .before in
     let a = n .before .before .before .before .before .before .before .args in
     enters-refused (a .words .now) (storageOf (a .value .now) (a .text .now) (a .ends .now) (a .entries .now)) (nameOf (a .named) (a .name .now)) (a .into) (a .opens) (a .own) (a .size)
-    (rw (h .chain-of .ensures, h .before .before .parent-of .ensures, h .before .before .before .before .inner-of .ensures, n .counts-of .ensures)) (e .enter-over .ensures) (c .if1 .taken)
+    (rw (h .chain-of .ensures, h .before .before .siblings-of .ensures, h .before .before .before .before .elements-of .ensures, p .parent-of .ensures, p .before .before .inner-of .ensures, n .counts-of .ensures)) (e .enter-over .ensures) (c .if1 .taken)
 
 returns-2 : tie.Need-returns-2
 returns-2 c =
-    let i = c .before .before .before in
+    let i = c .before .before .before .before .before in
     let e = i .before .before .before .before .before .before in
     let h = e .before .before .before in
-    let n = h .before .before .before .before .before .before in
+    let p = h .before .before .before .before .before .before in
+    let n = p .before .before .before .before in
     let a = n .before .before .before .before .before .before .before .args in
     enters-done (a .words .now) (storageOf (a .value .now) (a .text .now) (a .ends .now) (a .entries .now)) (nameOf (a .named) (a .name .now)) (a .into) (a .opens) (a .own) (a .size)
-    (rw (h .chain-of .ensures, h .before .before .parent-of .ensures, h .before .before .before .before .inner-of .ensures, n .counts-of .ensures)) (e .enter-over .ensures) (i .if1 .left) (c .put-counts .ensures)
+    (rw (h .chain-of .ensures, h .before .before .siblings-of .ensures, h .before .before .before .before .elements-of .ensures, p .parent-of .ensures, p .before .before .inner-of .ensures, n .counts-of .ensures)) (e .enter-over .ensures) (i .if1 .left)
+    (puts-inner (c .before .before .put-counts .ensures) (rw (n .counts-of .ensures) at (c .put-elements .ensures)))
 
 pub enter-spec : {M : Type 1} → statement M
 enter-spec =
@@ -33,9 +37,12 @@ enter-spec =
     (λ c κs. search needs)
     (λ c κs. search needs)
     (λ c κs. search needs)
+    (λ c κs. search needs)
+    (λ c κs. search needs)
     (λ c. search needs)
     (λ c. search needs)
     returns
+    (λ c κs. search needs)
     (λ c κs. search needs)
     (λ c. search needs)
     (λ c. search needs)

@@ -10,7 +10,7 @@ returns c =
     let r = c .before .before .before .before .before .before in
     let v = r .before .before .before in
     let a = v .before .before .before .before .before .before .args in
-    does-moved (a .words .now) (storageOf (a .value .now) (a .text .now) (a .ends .now) (a .entries .now)) close refl (λ b. refl) (v .view-of .ensures) (r .close-over .ensures) (c .moved .ensures)
+    does-moved (a .words .now) (storageOf (a .value .now) (a .text .now) (a .ends .now) (a .entries .now)) close refl tt (λ b. refl) (v .view-of .ensures) (r .close-over .ensures) (c .moved .ensures)
 
 pub variant-close-spec : {M : Type 1} → statement M
 variant-close-spec =

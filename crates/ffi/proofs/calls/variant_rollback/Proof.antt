@@ -10,7 +10,7 @@ returns c =
     let r = c .before .before .before .before in
     let v = r .before .before in
     let a = v .before .before .before .before .before .before .args in
-    does-moved (a .words .now) (storageOf (a .value .now) (a .text .now) (a .ends .now) (a .entries .now)) rollBack refl (λ b. refl) (v .view-of .ensures) (r .rollback-over .ensures) (c .moved .ensures)
+    does-moved (a .words .now) (storageOf (a .value .now) (a .text .now) (a .ends .now) (a .entries .now)) rollBack refl tt (λ b. refl) (v .view-of .ensures) (r .rollback-over .ensures) (c .moved .ensures)
 
 pub variant-rollback-spec : {M : Type 1} → statement M
 variant-rollback-spec =

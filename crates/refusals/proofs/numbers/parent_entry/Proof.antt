@@ -6,7 +6,7 @@ use Rattle.refusals.proofs.numbers.parent_entry.Tie as tie
 
 returns : tie.Need-returns
 returns c value text ends =
-    let s = c .before .before .before in
+    let s = c .before .before .before .before .before .before in
     let z = s .before .before .before in
     parent-new _ _ (z .before .before .before .before .before .before .pre) _ (s .before .enum-told .given .1) (rw (z .saturating-sub .ensures, z .before .num-field-names .ensures) at (s .search-entries .ensures))
 

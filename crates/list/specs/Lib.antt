@@ -1,0 +1,2 @@
+-- Document 02, A8: a list closed by walking its data.
+pub mod Close

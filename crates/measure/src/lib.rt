@@ -1,0 +1,7 @@
+// Values measured by their first bytes and stored lengths (document 02, A8): how long the value is that bytes begin with, and whether
+// bytes are so many values, end to end. No public function demands anything of its caller.
+mod length;
+mod walk;
+
+pub use length::value_length;
+pub use walk::whole_values;

@@ -1,6 +1,7 @@
 // A value's length by its first bytes.
+use encoding::slices::min;
 ghost use mathlib.Core.Path.{_≡_};
-ghost use Prim.Native.Nat.{_+_, _≤_, _<_, _%_};
+ghost use Prim.Native.Nat.{_+_, _≤_, _<_, _%_, min};
 ghost use lib.ListN.{length, getD};
 ghost use Rattle.measure.specs.Measure.{Numbered, containerLength, fixedLength, fixedSizes, measured, numberAt};
 ghost use Rattle.measure.specs.Measure.{within as withinOf};
@@ -106,6 +107,15 @@ fn container_length(v: &[u8], w: usize, ids: usize, c: usize) -> usize
     }
     let size = number_at(v, last, w);
     within(n, last + w + size)
+}
+
+// The number in `size` bytes at place `at`, lowest first: in four where more are asked for, in fewer where fewer are there.
+pub fn read_packed(v: &[u8], at: usize, size: usize) -> usize
+    ensures { λ r. ⌜ Numbered (now (v .entry)) at (min size 4) r ⌝ }
+{
+    let p = min(at, v.len());
+    let w = min(min(size, 4), v.len() - p);
+    number_at(v, p, w)
 }
 
 // The number in w bytes at place p, lowest first.

@@ -1,0 +1,2 @@
+-- Document 02, A6: a dictionary read.
+pub mod Dictionary

@@ -1,7 +1,7 @@
 -- A list's header over the starts that its data gives, and what is known of data that was tested.
-use mathlib.Core.Path.{_≡_, sym, _∙_, ap}
+use mathlib.Core.Path.{_≡_, refl, sym, _∙_, ap}
 use mathlib.Core.Bool.{Bool, true, false, _&&_}
-use mathlib.Core.List.{List, _∷_, _++_, append-assoc}
+use mathlib.Core.List.{List, [], _∷_, _++_, append-assoc}
 use Prim.Native.Nat.{ℕ, _+_, _-_, _*_, _≤_}
 use native.Mathlib.Omega.{arith}
 use lib.Dec.{leb}
@@ -9,14 +9,14 @@ use lib.ListN.{set, length, length-append}
 use borrow.Author.Tests.{leb-true, le-leb, not-false}
 use Rattle.encoding.specs.declared.slices.Placed.{Placed}
 use Rattle.encoding.specs.Packed.{le, les}
-use Rattle.encoding.specs.Slices.{counted, fits, write, shift, Writes, Shifts}
+use Rattle.encoding.specs.Slices.{counted, fits, write, shift, Shifts}
 use Rattle.encoding.specs.Width.{widthAt}
 use Rattle.encoding.proofs.PackedLaws.{length-le, length-les}
-use Rattle.encoding.proofs.SliceLaws.{write-then, fits-counted, left-done}
+use Rattle.encoding.proofs.SliceLaws.{write-one, fits-counted, left-done}
 use Rattle.container.specs.Layout.{countSize, large, listByte, listHeader, listHeaderAt, listHeaderSize}
 use Rattle.container.specs.Close.{fronted}
 use Rattle.container.proofs.LayoutLaws.{length-list}
-use Rattle.container.proofs.HeaderLaws.{one-more, write-count, write-next, neither, fronts}
+use Rattle.container.proofs.HeaderLaws.{one-more, write-next, neither, fronts}
 use Rattle.measure.specs.Measure.{dataIn, startsIn}
 use Rattle.measure.proofs.DataLaws.{length-data}
 use Rattle.measure.proofs.WalkLaws.{length-starts, whole-count}
@@ -29,22 +29,27 @@ use Rattle.list.proofs.StartLaws.{data-kept, data-shifted}
 pub header-end : (floor at w count n size : ℕ) → w ≡ widthAt floor size → count ≡ countSize (large n) → at + 1 + count + w * n + w ≡ at + listHeaderSize floor n size
 header-end floor at w count n size x y = rw (← x, ← y) (omega (arith, one-more w n))
 
+-- a count has one to four bytes
+pub count-some : {count : ℕ} (big : Bool) → count ≡ countSize big → (1 ≤ count) × (count ≤ 4)
+count-some true e = (omega arith, omega arith)
+count-some false e = (omega arith, omega arith)
+
 header-parts : (floor w count first size : ℕ) (os : List ℕ) → w ≡ widthAt floor size → count ≡ countSize (large (length os)) → first ≡ listByte w (large (length os))
     → ((first ∷ le count (length os)) ++ les w os) ++ le w size ≡ listHeader floor os size
 unfolding listHeader listHeaderAt
 header-parts floor w count first size os x y z = rw (z, x, y) (ap (λ c. listByte (widthAt floor size) (large (length os)) ∷ c) (append-assoc (le (countSize (large (length os))) (length os)) (les (widthAt floor size) os) (le (widthAt floor size) size)))
 
-pub header-written : (floor at w count first n size : ℕ) (l : List ℕ) {r r' : Placed} {m m' m'' : List ℕ} → w ≡ widthAt floor size → count ≡ countSize (large n) → first ≡ listByte w (large n)
-    → at + listHeaderSize floor n size + size ≤ counted (length l) → Writes (at + 1) (le count n) (set l at first) r m
+pub header-written : (floor at w count first n size : ℕ) (l : List ℕ) {m m' m'' : List ℕ} → w ≡ widthAt floor size → count ≡ countSize (large n) → first ≡ listByte w (large n)
+    → at + listHeaderSize floor n size + size ≤ counted (length l) → m ≡ write (at + 1) (le count n) (set l at first)
     → m' ≡ write (at + 1 + count) (les w (startsIn n 0 (dataIn (at + 1 + count + w * n + w) (at + 1 + count + w * n + w + size) m))) m
-    → Writes (at + 1 + count + w * n) (le w size) m' r' m''
+    → m'' ≡ write (at + 1 + count + w * n) (le w size) m'
     → m'' ≡ write at (listHeader floor (startsIn n 0 (dataIn (at + listHeaderSize floor n size) (at + listHeaderSize floor n size + size) l)) size) l
 header-written floor at w count first n size l {m = m} x y z h e f g =
     let from = at + listHeaderSize floor n size in
     let p = header-end floor at w count n size x y in
     let a = first ∷ le count n in
     let la = length-le count n in
-    let s = write-count at first count n l e (omega arith) in
+    let s = write-next at (at + 1) l (first ∷ []) (le count n) (write-one l at first (omega arith)) e refl (omega arith) in
     let d : dataIn from (from + size) m ≡ dataIn from (from + size) l = ap (dataIn from (from + size)) s ∙ data-kept at from (from + size) a l (omega arith) (omega arith) (omega arith) in
     let os = startsIn n 0 (dataIn from (from + size) l) in
     let k : length os ≡ n = length-starts n 0 (dataIn from (from + size) l) in
@@ -53,7 +58,7 @@ header-written floor at w count first n size l {m = m} x y z h e f g =
     let t = write-next at (at + 1 + count) l a (les w os) s (rw (p, d) at f) (omega arith) (omega arith) in
     let ab = length-append a (les w os) in
     let q : (a ++ les w os) ++ le w size ≡ listHeader floor os size = rw k at (header-parts floor w count first size os x (rw k y) (rw k z)) in
-    write-then at (at + 1 + count + w * n) l (a ++ les w os) (le w size) t g (omega arith) (omega arith) ∙ ap (λ c. write at c l) q
+    write-next at (at + 1 + count + w * n) l (a ++ les w os) (le w size) t g (omega arith) (omega arith) ∙ ap (λ c. write at c l) q
 
 -- ---- data that was tested
 

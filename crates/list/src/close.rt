@@ -1,9 +1,9 @@
 // Closing a list: `ListBuilder::finish` of the Rust, with the offsets had by walking the data.
 // Derived from parquet-variant 60.1.0, src/builder/list.rs: see lib.rt and NOTICE. Changed: written in Rattle.
+use crate::starts::put_number;
 use crate::starts::write_starts;
 use container::Closed;
 use container::count_size;
-use encoding::packed::write_packed;
 use encoding::slices::counted;
 use encoding::slices::fits;
 use encoding::slices::shift_up;
@@ -75,7 +75,7 @@ fn write_list_header(value: &mut [u8], at: usize, n: usize, size: usize, floor: 
     let last = first + width * n;
     let from = last + width;
     value[at] = array_header(255 < n, width);
-    write_packed(value, at + 1, n, count);
+    put_number(value, at + 1, n, count);
     write_starts(value, first, from, from + size, n, width);
-    write_packed(value, last, size, width);
+    put_number(value, last, size, width);
 }

@@ -34,7 +34,7 @@ pub(crate) fn write_starts(
 }
 
 // n in `width` bytes at place `at`, lowest first: as `write_packed`, without a test of the room and without a loop.
-fn put_number(value: &mut [u8], at: usize, n: usize, width: usize)
+pub(crate) fn put_number(value: &mut [u8], at: usize, n: usize, width: usize)
     requires { ⌜ at + width ≤ length (now value) ⌝ }
     requires { ⌜ (1 ≤ width) × (width ≤ 4) ⌝ }
     ensures { λ _. ⌜ now (value .exit) ≡ write at (le width n) (now (value .entry)) ⌝ }

@@ -11,7 +11,7 @@ use lib.ListN.{length, getD, List·getD-eq-default}
 use borrow.Author.Tests.{lt-leb, le-leb, ltb-true, ltb-false, leb-true, leb-false, eqb-true, eqb-false, eq-eqb, ne-eqb}
 use Rattle.value.specs.Scalar.{scalarLength, payloadSizes}
 use Rattle.container.specs.Layout.{countSize}
-use Rattle.measure.specs.Measure.{numberAt, within, containerLength, knownLength, valueLength, measured, fixedFrom, fixedSizes, fixedLength}
+use Rattle.measure.specs.Measure.{numberAt, within, containerLength, knownLength, valueLength, measured, fixedFrom, fixedSizes, fixedLength, isLong}
 
 -- ---- whole, or 0
 
@@ -79,10 +79,6 @@ code-cases P c none long fixed = go (leb c 20) refl
     go : (t : Bool) → leb c 20 ≡ t → P (getD fixedSizes c 0)
     go true e = let h = leb-true c 20 e in rw (fixed-size 0 payloadSizes c (omega arith), zero-add c) (known h (eqb c 15 || eqb c 16) refl)
     go false e = rw (List·getD-eq-default fixedSizes 0 {n = c} (omega (arith, leb-false c 20 e))) (none (leb-false c 20 e))
-
--- Binary and String, by their first bytes
-abbrev pub isLong : ℕ → Bool
-isLong b = eqb b 60 || eqb b 64
 
 either : (x y b : ℕ) → (eqb b x || eqb b y) ≡ true → (b ≡ x) ⊎ (b ≡ y)
 either x y b = go (eqb b x) (eqb b y) refl refl
@@ -155,36 +151,29 @@ long-measured b r (x ∷ bytes) e p q = rw (← e, long-told b bytes (either 60 
 pub long-cut : (bytes : List ℕ) → length bytes < 5 → 0 ≡ within (length bytes) (5 + numberAt bytes 1 4)
 long-cut bytes h = sym (too-long (length bytes) (5 + numberAt bytes 1 4) (omega arith))
 
-count-is : (x : ℕ) → countSize (eqb (x % 2) 1) ≡ 1 + 3 * (x % 2)
-count-is x = go (eqb (x % 2) 1) refl
-  where
-    go : (t : Bool) → eqb (x % 2) 1 ≡ t → countSize t ≡ 1 + 3 * (x % 2)
-    go true e = omega (arith, eqb-true (x % 2) 1 e)
-    go false e = let n = eqb-false (x % 2) 1 e in omega arith
-
-pub list-measured : (b w c r : ℕ) (bytes : List ℕ) → b ≡ getD bytes 0 0 → b % 4 ≡ 3 → w ≡ b / 4 % 4 + 1 → c ≡ 1 + 3 * (b / 16 % 2)
-    → r ≡ within (length bytes) (containerLength w 0 c bytes) → r ≡ measured bytes
+pub list-measured : (b w r : ℕ) (large : Bool) (bytes : List ℕ) → b ≡ getD bytes 0 0 → b % 4 ≡ 3 → w ≡ b / 4 % 4 + 1 → large ≡ eqb (b / 16 % 2) 1
+    → r ≡ within (length bytes) (containerLength w 0 (countSize large) bytes) → r ≡ measured bytes
 unfolding measured valueLength
-list-measured b w c r bytes e h x y q = rw (← e, eq-eqb (b % 4) 3 h, count-is (b / 16), ← x, ← y) q
+list-measured b w r large bytes e h x y q = rw (← e, eq-eqb (b % 4) 3 h, ← x, ← y) q
 
-pub object-measured : (b w v c r : ℕ) (bytes : List ℕ) → b ≡ getD bytes 0 0 → b % 4 ≡ 2 → w ≡ b / 4 % 4 + 1 → v ≡ b / 16 % 4 + 1 → c ≡ 1 + 3 * (b / 64 % 2)
-    → r ≡ within (length bytes) (containerLength w v c bytes) → r ≡ measured bytes
+pub object-measured : (b w v r : ℕ) (large : Bool) (bytes : List ℕ) → b ≡ getD bytes 0 0 → b % 4 ≡ 2 → w ≡ b / 4 % 4 + 1 → v ≡ b / 16 % 4 + 1 → large ≡ eqb (b / 64 % 2) 1
+    → r ≡ within (length bytes) (containerLength w v (countSize large) bytes) → r ≡ measured bytes
 unfolding measured valueLength
-object-measured b w v c r bytes e h x z y q = rw (← e, ne-eqb (b % 4) 3 (omega arith), eq-eqb (b % 4) 2 h, count-is (b / 64), ← x, ← z, ← y) q
+object-measured b w v r large bytes e h x z y q = rw (← e, ne-eqb (b % 4) 3 (omega arith), eq-eqb (b % 4) 2 h, ← x, ← z, ← y) q
 
 -- a header cut short says more than there is
 pub count-cut : (w v c : ℕ) (bytes : List ℕ) → length bytes < 1 + c → 0 ≡ within (length bytes) (containerLength w v c bytes)
 unfolding containerLength
 count-cut w v c bytes h = sym (too-long (length bytes) (containerLength w v c bytes) (omega arith))
 
-pub size-cut : (w v c count : ℕ) (bytes : List ℕ) → count ≡ numberAt bytes 1 c → length bytes < 1 + c + (v + w) * count + w → 0 ≡ within (length bytes) (containerLength w v c bytes)
-unfolding containerLength
-size-cut w v c count bytes e h = sym (too-long (length bytes) (containerLength w v c bytes) (rw (← e) (omega arith)))
+pub size-cut : (last w : ℕ) (bytes : List ℕ) → length bytes < last + w → 0 ≡ within (length bytes) (last + w + numberAt bytes last w)
+size-cut last w bytes h = sym (too-long (length bytes) (last + w + numberAt bytes last w) (omega arith))
 
-pub header-whole : (w v c count size r : ℕ) (bytes : List ℕ) → count ≡ numberAt bytes 1 c → size ≡ numberAt bytes (1 + c + (v + w) * count) w
-    → r ≡ within (length bytes) (1 + c + (v + w) * count + w + size) → r ≡ within (length bytes) (containerLength w v c bytes)
+-- the header by its count
+pub header-whole : (w v c count r : ℕ) (bytes : List ℕ) → count ≡ numberAt bytes 1 c → r ≡ within (length bytes) (1 + c + (v + w) * count + w + numberAt bytes (1 + c + (v + w) * count) w)
+    → r ≡ within (length bytes) (containerLength w v c bytes)
 unfolding containerLength
-header-whole w v c count size r bytes e f g = rw (← e, ← f) g
+header-whole w v c count r bytes e g = rw (← e) g
 
 -- a count, however large
 pub table-small : {x y : ℕ} → x ≤ 8 → y < 4294967296 → x * y ≤ 8 * 4294967295

@@ -1,52 +1,47 @@
--- Numbers read from bytes, from the highest byte down.
+-- Numbers read from one to four bytes; and from as many as are there.
 use mathlib.Core.Path.{_≡_, refl, sym, _∙_, ap}
 use mathlib.Core.Bool.{Bool, true, false}
-use mathlib.Core.List.{List, _∷_}
-use Prim.Native.Nat.{ℕ, suc, _+_, _-_, _*_, _^_, _≤_, _<_, min}
-use native.Mathlib.Nat.{pow-suc, sub-self, pow-le-pow-right}
+use mathlib.Core.List.{List, [], _∷_}
+use Prim.Native.Nat.{ℕ, suc, _+_, _-_, _*_, _≤_, _<_, min}
 use native.Mathlib.Omega.{arith}
 use lib.Dec.{leb}
 use lib.ListN.{length, take, drop, getD, length-drop, drop-of-length-le}
 use lib.Seq.{drop-cons, drop-length, take-all, take-length}
 use borrow.Author.Tests.{leb-true, leb-false}
 use Rattle.encoding.specs.Packed.{number}
-use Rattle.measure.specs.Measure.{Numbered}
+use Rattle.measure.specs.Measure.{Numbered, numberAt}
 
--- n is the number of the bytes from place p + i up to p + w
-pub record Reading (v : List ℕ) (p w i n : ℕ) : Type 0 where
-  pub value : n ≡ number (take (w - i) (drop (p + i) v))
-  pub small : n < 256 ^ (w - i)
-  pub low : i ≤ w
-
-pub reading-start : (v : List ℕ) (p w : ℕ) → Reading v p w w 0
+-- the lowest byte, and the number of those above it
+above : (v : List ℕ) (p w : ℕ) → p < length v → numberAt v p (suc w) ≡ getD v p 0 + 256 * numberAt v (p + 1) w
 unfolding number
-reading-start v p w = record { value = rw (sub-self w); small = rw (sub-self w) (omega arith); low = omega arith }
+above v p w h = let e : suc p ≡ p + 1 = omega arith in rw (drop-cons v p 0 h, e) refl
 
-pub reading-again : {v : List ℕ} {p w i n : ℕ} (j b : ℕ) → Reading v p w i n → i ≡ j + 1 → p + j < length v → b ≡ getD v (p + j) 0 → b < 256 → Reading v p w j (256 * n + b)
+module _ (v : List ℕ) (p w r : ℕ) (k : p + w ≤ length v) where
+  pub one-byte : w ≡ 1 → (r ≡ number (getD v p 0 ∷ 0 ∷ 0 ∷ 0 ∷ [])) × (r < 4294967296) → Numbered v p w r
+  unfolding number
+  one-byte e x = record { value = x .0 ∙ sym (rw (e, above v p 0 (omega arith)) (omega arith)); small = x .1 }
+
+  pub two-bytes : w ≡ 2 → (r ≡ number (getD v p 0 ∷ getD v (p + 1) 0 ∷ 0 ∷ 0 ∷ [])) × (r < 4294967296) → Numbered v p w r
+  unfolding number
+  two-bytes e x = record { value = x .0 ∙ sym (rw (e, above v p 1 (omega arith), above v (p + 1) 0 (omega arith)) (omega arith)); small = x .1 }
+
+  pub three-bytes : w ≡ 3 → (r ≡ number (getD v p 0 ∷ getD v (p + 1) 0 ∷ getD v (p + 2) 0 ∷ 0 ∷ [])) × (r < 4294967296) → Numbered v p w r
+  unfolding number
+  three-bytes e x =
+      let f : p + 1 + 1 ≡ p + 2 = omega arith in
+      record { value = x .0 ∙ sym (rw (e, above v p 2 (omega arith), above v (p + 1) 1 (omega arith), f, above v (p + 2) 0 (omega arith)) (omega arith)); small = x .1 }
+
+  pub four-bytes : w ≡ 4 → (r ≡ number (getD v p 0 ∷ getD v (p + 1) 0 ∷ getD v (p + 2) 0 ∷ getD v (p + 3) 0 ∷ [])) × (r < 4294967296) → Numbered v p w r
+  unfolding number
+  four-bytes e x =
+      let f : p + 1 + 1 ≡ p + 2 = omega arith in
+      let g : p + 2 + 1 ≡ p + 3 = omega arith in
+      record { value = x .0 ∙ sym (rw (e, above v p 3 (omega arith), above v (p + 1) 2 (omega arith), f, above v (p + 2) 1 (omega arith), g, above v (p + 3) 0 (omega arith)) (omega arith)); small = x .1 }
+
+-- no byte
+pub no-bytes : (v : List ℕ) (p w : ℕ) → w ≡ 0 → Numbered v p w 0
 unfolding number
-reading-again {v} {p} {w} {i} {n} j b r e h q k =
-    let s : w - j ≡ suc (w - i) = omega arith in
-    let d : drop (p + j) v ≡ getD v (p + j) 0 ∷ drop (suc (p + j)) v = drop-cons v (p + j) 0 h in
-    let f : suc (p + j) ≡ p + i = omega arith in
-    let t : number (take (w - j) (drop (p + j) v)) ≡ getD v (p + j) 0 + 256 * number (take (w - i) (drop (p + i) v)) = rw (s, d, f) refl in
-    let x = r .value in
-    let y : number (take (w - j) (drop (p + j) v)) ≡ b + 256 * n = t ∙ (cc) in
-    let u = pow-suc 256 (w - i) in
-    record { value = omega arith; small = rw s (omega arith); low = omega arith }
-
--- fewer than four bytes read so far: one more fits
-pub reading-fits : {v : List ℕ} {p w i n : ℕ} → Reading v p w i n → w ≤ 4 → 0 < i → 256 * n + 256 ≤ 4294967296
-reading-fits {v} {p} {w} {i} {n} r h k =
-    let a = pow-le-pow-right {n = 256} (omega arith) {i = w - i} {j = 3} (omega arith) in
-    omega (arith, r .small)
-
-pub reading-end : {v : List ℕ} {p w n : ℕ} (i : ℕ) → Reading v p w i n → i ≡ 0 → w ≤ 4 → Numbered v p w n
-reading-end {v} {p} {w} {n} i r z h =
-    let a : w - i ≡ w = omega arith in
-    let b : p + i ≡ p = omega arith in
-    let x = r .value in
-    let k = pow-le-pow-right {n = 256} (omega arith) {i = w - i} {j = 4} (omega arith) in
-    record { value = rw (a, b) at x; small = omega (arith, r .small) }
+no-bytes v p w e = rw e (record { value = refl; small = omega arith })
 
 take-there : (w : ℕ) (l : List ℕ) → take (min w (length l)) l ≡ take w l
 take-there w l = go (leb w (length l)) refl

@@ -74,6 +74,10 @@ fixedSizes = fixedFrom 0 payloadSizes
 abbrev pub fixedLength : ℕ → ℕ
 fixedLength b = cond (eqb (b % 4) 0) (getD fixedSizes (b / 4) 0) (cond (eqb (b % 4) 1) (1 + b / 4) 0)
 
+-- Binary and String, by their first bytes
+abbrev pub isLong : ℕ → Bool
+isLong b = eqb b 60 || eqb b 64
+
 -- r is the number in w bytes at place p, of a few bytes
 pub record Numbered (bytes : List ℕ) (p w r : ℕ) : Type 0 where
   pub value : r ≡ numberAt bytes p w

@@ -1,9 +1,13 @@
 // A value's length by its first bytes.
 use encoding::slices::min;
 ghost use mathlib.Core.Path.{_≡_};
-ghost use Prim.Native.Nat.{_+_, _≤_, _<_, _%_, min};
+ghost use Prim.Native.Nat.{_+_, _*_, _≤_, _<_, _%_, min};
+ghost use mathlib.Core.Bool.{false};
+ghost use mathlib.Core.List.{_∷_, []};
 ghost use lib.ListN.{length, getD};
-ghost use Rattle.measure.specs.Measure.{Numbered, containerLength, fixedLength, fixedSizes, measured, numberAt};
+ghost use Rattle.encoding.specs.Packed.{number};
+ghost use Rattle.container.specs.Layout.{countSize};
+ghost use Rattle.measure.specs.Measure.{Numbered, containerLength, fixedLength, fixedSizes, isLong, measured, numberAt};
 ghost use Rattle.measure.specs.Measure.{within as withinOf};
 
 // The length of the whole value that these bytes begin with, or 0.
@@ -15,7 +19,10 @@ pub fn value_length(v: &[u8]) -> usize
     }
     let n = fixed_length(v[0]);
     if (n == 0) | (v.len() < n) {
-        return stored_length(v);
+        if is_long(v[0]) {
+            return long_length(v);
+        }
+        return header_length(v);
     }
     n
 }
@@ -63,26 +70,15 @@ fn size_of_code(code: usize) -> usize
     }
 }
 
-// The same as `value_length`, where the first byte tells no whole value alone.
-pub(crate) fn stored_length(v: &[u8]) -> usize
-    requires { ⌜ (0 < length (now v)) × (withinOf (length (now v)) (fixedLength (getD (now v) 0 0)) ≡ 0) ⌝ }
-    ensures { λ r. ⌜ r ≡ measured (now (v .entry)) ⌝ }
+// Binary or String, by the first byte: their length is stored behind it.
+pub(crate) fn is_long(b: u8) -> bool
+    ensures { λ r. ⌜ r ≡ isLong b ⌝ }
 {
-    let b = wide(v[0]);
-    // the first bytes of Binary and String
-    if (b == 60) | (b == 64) {
-        return long_length(v);
-    }
-    let w = low_two(b >> 2) + 1;
-    match low_two(b) {
-        3 => container_length(v, w, 0, 1 + 3 * low_one(b >> 4)),
-        2 => container_length(v, w, low_two(b >> 4) + 1, 1 + 3 * low_one(b >> 6)),
-        _ => 0,
-    }
+    (b == 60) | (b == 64)
 }
 
-// Binary and String: a length of four bytes, and as many.
-fn long_length(v: &[u8]) -> usize
+// Of these: a length of four bytes, and as many.
+pub(crate) fn long_length(v: &[u8]) -> usize
     ensures { λ r. ⌜ r ≡ withinOf (length (now (v .entry))) (5 + numberAt (now (v .entry)) 1 4) ⌝ }
 {
     if v.len() < 5 {
@@ -91,17 +87,44 @@ fn long_length(v: &[u8]) -> usize
     within(v.len(), 5 + number_at(v, 1, 4))
 }
 
-// A list's or an object's, with w bytes an offset, `ids` an id and c the count. However the count was altered, a sum is below 2 ^ 36.
-fn container_length(v: &[u8], w: usize, ids: usize, c: usize) -> usize
-    requires { ⌜ (w ≤ 4) × (ids ≤ 4) × (c ≤ 4) ⌝ }
-    ensures { λ r. ⌜ r ≡ withinOf (length (now (v .entry))) (containerLength w ids c (now (v .entry))) ⌝ }
+// The same as `value_length`, where the first byte is neither of these and tells no whole value alone: by a list's or an object's header.
+pub(crate) fn header_length(v: &[u8]) -> usize
+    requires { ⌜ (0 < length (now v)) × (withinOf (length (now v)) (fixedLength (getD (now v) 0 0)) ≡ 0) × (isLong (getD (now v) 0 0) ≡ false) ⌝ }
+    ensures { λ r. ⌜ r ≡ measured (now (v .entry)) ⌝ }
+{
+    let b = wide(v[0]);
+    let w = low_two(b >> 2) + 1;
+    match low_two(b) {
+        3 => container_length(v, w, 0, low_one(b >> 4) == 1),
+        2 => container_length(v, w, low_two(b >> 4) + 1, low_one(b >> 6) == 1),
+        _ => 0,
+    }
+}
+
+// A list's or an object's, with w bytes an offset, `ids` an id, and a count of four bytes or one.
+fn container_length(v: &[u8], w: usize, ids: usize, large: bool) -> usize
+    requires { ⌜ (1 ≤ w) × (w ≤ 4) × (ids ≤ 4) ⌝ }
+    ensures { λ r. ⌜ r ≡ withinOf (length (now (v .entry))) (containerLength w ids (countSize large) (now (v .entry))) ⌝ }
 {
     let n = v.len();
-    if n < 1 + c {
+    if large {
+        if n < 5 {
+            return 0;
+        }
+        return data_end(v, 5 + (ids + w) * number_at(v, 1, 4), w);
+    }
+    if n < 2 {
         return 0;
     }
-    let count = number_at(v, 1, c);
-    let last = 1 + c + (ids + w) * count;
+    data_end(v, 2 + (ids + w) * number_at(v, 1, 1), w)
+}
+
+// Where the data ends whose size stands at `last`, in w bytes. However a count was altered, the sum is below 2 ^ 37.
+fn data_end(v: &[u8], last: usize, w: usize) -> usize
+    requires { ⌜ (last ≤ 5 + 8 * 4294967295) × (1 ≤ w) × (w ≤ 4) ⌝ }
+    ensures { λ r. ⌜ r ≡ withinOf (length (now (v .entry))) (last + w + numberAt (now (v .entry)) last w) ⌝ }
+{
+    let n = v.len();
     if n < last + w {
         return 0;
     }
@@ -115,21 +138,34 @@ pub fn read_packed(v: &[u8], at: usize, size: usize) -> usize
 {
     let p = min(at, v.len());
     let w = min(min(size, 4), v.len() - p);
+    if w == 0 {
+        return 0;
+    }
     number_at(v, p, w)
 }
 
 // The number in w bytes at place p, lowest first.
 fn number_at(v: &[u8], p: usize, w: usize) -> usize
-    requires { ⌜ (p + w ≤ length (now v)) × (w ≤ 4) ⌝ }
+    requires { ⌜ (p + w ≤ length (now v)) × (1 ≤ w) × (w ≤ 4) ⌝ }
     ensures { λ r. ⌜ Numbered (now (v .entry)) p w r ⌝ }
 {
-    let mut n = 0;
-    let mut i = w;
-    while 0 < i {
-        i -= 1;
-        n = 256 * n + wide(v[p + i]);
+    if w < 2 {
+        return joined(v[p], 0, 0, 0);
     }
-    n
+    if w < 3 {
+        return joined(v[p], v[p + 1], 0, 0);
+    }
+    if w < 4 {
+        return joined(v[p], v[p + 1], v[p + 2], 0);
+    }
+    joined(v[p], v[p + 1], v[p + 2], v[p + 3])
+}
+
+// The number that four bytes stand for, lowest first.
+fn joined(a: u8, b: u8, c: u8, d: u8) -> usize
+    ensures { λ r. ⌜ (r ≡ number (a ∷ b ∷ c ∷ d ∷ [])) × (r < 4294967296) ⌝ }
+{
+    wide(a) + 256 * (wide(b) + 256 * (wide(c) + 256 * wide(d)))
 }
 
 // x, where n bytes hold as many, else 0.
@@ -156,7 +192,7 @@ fn low_two(b: usize) -> usize
 }
 
 fn wide(b: u8) -> usize
-    ensures { λ r. ⌜ r ≡ b ⌝ }
+    ensures { λ r. ⌜ (r ≡ b) × (r < 256) ⌝ }
 {
     b as usize
 }

@@ -5,8 +5,9 @@ use native.Mathlib.Omega.{arith}
 use Prim.Native.Nat.{_+_, _*_, _≤_}
 use lib.ListN.{length, length-set}
 use Rattle.encoding.specs.Slices.{counted}
+use Rattle.container.specs.Layout.{large}
 use Rattle.encoding.proofs.WidthLaws.{width-at-low, width-at-high}
-use Rattle.list.proofs.CloseLaws.{header-end, header-written}
+use Rattle.list.proofs.CloseLaws.{count-some, header-end, header-written}
 use Rattle.list.proofs.close.write_list_header.Statement.{statement}
 use Rattle.list.proofs.close.write_list_header.Tie as tie
 
@@ -23,21 +24,39 @@ wide-enough c = rw (c .before .int-size-at .ensures) (width-at-low _ _, width-at
 array-header-requires : tie.Need-array-header-requires
 array-header-requires c κs = wide-enough c
 
+put-number-requires : tie.Need-put-number-requires
+put-number-requires c κs =
+    let w = c .before in
+    let e = w .before in
+    let a = e .before .before .before .args in
+    let h = room e in
+    (omega (arith, length-set (a .value .now) (a .at) (w .array-header .result)), count-some (large (a .n)) (e .count-size .ensures))
+
 write-starts-requires : tie.Need-write-starts-requires
 write-starts-requires c κs =
     let w = c .before .before .before in
     let e = w .before .before .before in
     let a = e .before .before .before .args in
-    let k = w .write-packed .kept .0 ∙ length-set (a .value .now) (a .at) _ in
+    let k = w .put-number .kept .0 ∙ length-set (a .value .now) (a .at) _ in
     let h = room e in
     ((omega arith, omega arith), (wide-enough e, omega arith))
+
+put-number-requires-2 : tie.Need-put-number-requires-2
+put-number-requires-2 c κs =
+    let s = c .before .before .before in
+    let w = s .before .before .before .before in
+    let e = w .before .before .before in
+    let a = e .before .before .before .args in
+    let k = s .write-starts .kept .0 ∙ (w .put-number .kept .0 ∙ length-set (a .value .now) (a .at) _) in
+    let h = room e in
+    (omega arith, wide-enough e)
 
 same-length : tie.Need-same-length
 same-length c =
     let s = c .before .before .before .before .before .before in
     let w = s .before .before .before .before in
     let a = w .before .before .before .before .before .before .args in
-    c .before .before .write-packed2 .kept .0 ∙ (s .write-starts .kept .0 ∙ (w .write-packed .kept .0 ∙ length-set (a .value .now) (a .at) _))
+    c .before .before .put-number2 .kept .0 ∙ (s .write-starts .kept .0 ∙ (w .put-number .kept .0 ∙ length-set (a .value .now) (a .at) _))
 
 returns : tie.Need-returns
 returns c =
@@ -45,7 +64,7 @@ returns c =
     let w = s .before .before .before .before in
     let e = w .before .before .before in
     header-written _ _ _ _ _ _ _ _ (e .before .int-size-at .ensures) (e .count-size .ensures) (w .before .before .array-header .ensures) (e .before .before .before .pre)
-    (w .write-packed .ensures) (s .write-starts .ensures) (c .before .before .write-packed2 .ensures)
+    (w .put-number .ensures) (s .write-starts .ensures) (c .before .before .put-number2 .ensures)
 
 pub write-list-header-spec : {M : Type 1} → statement M
 write-list-header-spec =
@@ -61,9 +80,9 @@ write-list-header-spec =
     array-header-requires
     (λ c. omega (arith, room (c .before)))
     (λ c. omega (arith, room (c .before .before)))
-    (λ c κs. search needs)
+    put-number-requires
     (λ c. omega (arith, room (c .before .before .before .before .before .before)))
     write-starts-requires
-    (λ c κs. search needs)
+    put-number-requires-2
     same-length
     returns)

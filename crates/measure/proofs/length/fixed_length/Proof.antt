@@ -9,7 +9,7 @@ use Rattle.measure.proofs.length.fixed_length.Tie as tie
 returns : tie.Need-returns
 returns c =
     let w = c .before .before .before in
-    rw (eq-eqb (w .before .args .b % 4) 0 (omega arith), ← w .wide .ensures) (c .size-of-code .ensures)
+    rw (eq-eqb (w .before .args .b % 4) 0 (omega arith), ← w .wide .ensures .0) (c .size-of-code .ensures)
 
 returns-2 : tie.Need-returns-2
 returns-2 c =

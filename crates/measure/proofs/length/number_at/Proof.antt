@@ -1,48 +1,47 @@
--- The bytes read so far are the number's high ones.
+-- By the width: the bytes there, joined.
 use borrow.Author.Needs.{needs}
-use Prim.Native.Nat.{_+_, _-_}
 use native.Mathlib.Omega.{arith}
-use Rattle.measure.proofs.NumberLaws.{Reading, reading-start, reading-again, reading-fits, reading-end}
+use Rattle.measure.proofs.NumberLaws.{one-byte, two-bytes, three-bytes, four-bytes}
 use Rattle.measure.proofs.length.number_at.Statement.{statement}
 use Rattle.measure.proofs.length.number_at.Tie as tie
 
-abbrev Inv-loop : tie.InvT-loop
-Inv-loop v p w n₀ i₀ n i = Reading v p w i n
+returns : tie.Need-returns
+returns c = let s = c .before .before .before .before in let h = s .pre in one-byte _ _ _ _ (h .0) (omega arith) (c .joined .ensures)
 
-abbrev μ-loop : tie.MeasureT-loop
-μ-loop v p w n₀ i₀ n i = i
+returns-2 : tie.Need-returns-2
+returns-2 c = let s = c .before .before .before .before .before .before in let h = s .pre in two-bytes _ _ _ _ (h .0) (omega arith) (c .joined2 .ensures)
 
-loop-holds : tie.Need-loop-holds Inv-loop μ-loop
-loop-holds c = reading-start _ _ _
+returns-3 : tie.Need-returns-3
+returns-3 c = let s = c .before .before .before .before .before .before .before .before in let h = s .pre in three-bytes _ _ _ _ (h .0) (omega arith) (c .joined3 .ensures)
 
-mul-n : tie.Need-mul-n Inv-loop μ-loop
-mul-n c = omega (arith, reading-fits (c .before .loop .inv) (c .before .before .before .pre .1) (omega arith))
-
-add-n : tie.Need-add-n Inv-loop μ-loop
-add-n c = omega (arith, reading-fits (c .before .before .before .loop .inv) (c .before .before .before .before .before .pre .1) (omega arith), c .wide .ensures, c .before .shared-slice-known2 .given (c .before .before .before .before .before .args .p + (c .before .before .before .loop .i - 1)))
-
-loop-again : tie.Need-loop-again Inv-loop μ-loop
-loop-again c =
-    let i = c .before .before .before .loop .i in
-    let p = c .before .before .before .before .before .args .p in
-    reading-again (i - 1) (c .wide .result) (c .before .before .before .loop .inv) (omega arith) (omega arith) (c .wide .ensures) (omega (arith, c .wide .ensures, c .before .shared-slice-known2 .given (p + (i - 1))))
-
-returns : tie.Need-returns Inv-loop μ-loop
-returns c = reading-end _ (c .before .loop .inv) (omega arith) (c .before .before .before .pre .1)
+returns-4 : tie.Need-returns-4
+returns-4 c = let s = c .before .before .before .before .before .before .before .before .before in let h = s .pre in four-bytes _ _ _ _ (h .0) (omega arith) (c .joined4 .ensures)
 
 pub number-at-spec : {M : Type 1} → statement M
 number-at-spec =
     tie.close
     (tie.spec
-    Inv-loop
-    μ-loop
-    loop-holds
-    (λ c. omega arith)
-    mul-n
-    (λ c. omega arith)
-    (λ c. omega arith)
+    (λ c. search needs)
     (λ c κs. search needs)
-    add-n
-    (λ c. omega arith)
-    loop-again
-    returns)
+    returns
+    (λ c. search needs)
+    (λ c. search needs)
+    (λ c. search needs)
+    (λ c κs. search needs)
+    returns-2
+    (λ c. search needs)
+    (λ c. search needs)
+    (λ c. search needs)
+    (λ c. search needs)
+    (λ c. search needs)
+    (λ c κs. search needs)
+    returns-3
+    (λ c. search needs)
+    (λ c. search needs)
+    (λ c. search needs)
+    (λ c. search needs)
+    (λ c. search needs)
+    (λ c. search needs)
+    (λ c. search needs)
+    (λ c κs. search needs)
+    returns-4)

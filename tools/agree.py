@@ -10,18 +10,18 @@ and of finish the output. Steps come from
 
 - random runs from a fresh builder, in half of them with pokes between the calls;
 - for each step of a run, steps one off from it: the same state and call but for one number one
-  more or less, one mark turned, one bit of a list's data at its close, one byte or number more or less
-  lent .., chosen where the number changes. If the one has number n and the other a later one or none,
-  the other just misses n;
+  more or less, those of marks and undo records too, one flag turned, one bit of a list's data at its close,
+  one byte or number more or less lent .., chosen where the number changes. If the one has number n and the
+  other a later one or none, the other just misses n;
 - all one-off steps of a few states in which everything that number 1 asks just holds;
 - written cases: 64 open, the widths' and ranges' edges, at each floor, numbers to 2^64 - 1, lists whose
-  data is as many values as they count, or just not.
+  data is as many values as they count, or just not, 16 marks and one more, records undone.
 
 Each step becomes an antt term; a module shows `faults steps ≡ []` by refl: the places of the steps
 that differ. All that document 01 fixes is compared whole. Of what it leaves free: the freed
 entries of a closed object are expected sorted, as crates/semantics/specs says; the containers beyond
 the new depth are not compared (those not open beforehand are given to both sides differently), nor
-is an object's count of elements.
+is an object's count of elements, nor a mark that is not set.
 """
 import argparse
 import collections
@@ -37,7 +37,8 @@ import time
 
 from landed import LANDED
 
-KINDS_OF_CALL = ("register", "append", "open", "close", "rollback", "unique", "finish")
+KINDS_OF_CALL = ("register", "append", "open", "close", "rollback", "unique", "finish", "mark", "return")
+ORDER = (1, 2, 3, 4, 5, 6, 22, 18, 7, 17, 8, 9, 10, 11, 12, 13, 23, 14, 15, 16)     # of checking
 NAMES = [b"a", b"b", b"c", b"ab", b"", b"\xc3\xa9", b"z", b"a", b"b", b"abc"]
 BAD_NAMES = [b"\xff", b"\xc3", b"a\x80", b"\xed\xa0\x80", b"\xe0\x9f\xbf", b"\xf4\x90\x80\x80", b"\xc1\xbf"]
 EDGE_TEXTS = [b"\xc2\x80", b"\xdf\xbf", b"\xe0\xa0\x80", b"\xed\x9f\xbf", b"\xee\x80\x80", b"\xef\xbf\xbf",
@@ -56,7 +57,7 @@ def twin(b):
     """A copy of a builder and its storage."""
     r, s = copy.copy(b.r), copy.copy(b.s)
     r.containers = [copy.copy(c) if i < b.r.open else c for i, c in enumerate(r.containers)]
-    s.value, s.namebytes, s.nameends, s.entries = s.value[:], s.namebytes[:], s.nameends[:], s.entries[:]
+    s.value, s.namebytes, s.nameends, s.entries, s.undo = s.value[:], s.namebytes[:], s.nameends[:], s.entries[:], s.undo[:]
     return type(b)(r, s, b.on)
 
 
@@ -74,15 +75,15 @@ class Step:
             self.number, self.written = after.finish(self.output)
         else:
             self.number = {"register": after.register, "append": after.append, "open": after.open,
-                           "close": after.close, "rollback": after.rollback,
-                           "unique": after.set_unique}[call[0]](*call[1:])
+                           "close": after.close, "rollback": after.rollback, "unique": after.set_unique,
+                           "mark": after.mark, "return": after.return_to}[call[0]](*call[1:])
         self.after = after
 
     @staticmethod
     def key_of(b):
         r, s = b.r, b.s
-        return repr((r.value_used, r.names_used, r.namebytes_used, r.entries_used, r.open, r.unique,
-                     r.finished, r.floor, r.containers[:r.open], s.value, s.namebytes, s.nameends, s.entries))
+        return repr((r.value_used, r.names_used, r.namebytes_used, r.entries_used, r.undo_used, r.open, r.unique,
+                     r.finished, r.floor, r.containers[:r.open], s.value, s.namebytes, s.nameends, s.entries, s.undo))
 
     def key(self):
         return self.key_of(self.before) + repr(self.call)
@@ -142,12 +143,22 @@ def ample_call(rng, b):
     if inner is None or rng.random() < 0.05:
         return random_call(rng, b) if b.r.value_used or rng.random() < 0.2 else ("open", None, rng.choice(["object", "object", "list"]))
     name = rng.choice([b"b", b"a", b"ab", b"a", b"b", b""]) if inner.kind == "object" else None
-    verb = rng.choices(("append", "open", "close", "rollback", "unique"), (9, 7, 1, 1, 1) if b.r.open == 1 else (5, 4, 4, 6, 1))[0]
+    verbs = ("append", "open", "close", "rollback", "unique", "mark", "return")
+    marks = (3, 4 if inner.marks else 0.2) if "A9" in b.on else (0, 0)
+    verb = rng.choices(verbs, (*((9, 7, 1, 1, 1) if b.r.open == 1 else (5, 4, 4, 6, 1)), *marks))[0]
     if verb == "append":
         return (verb, name, rng.choice([("null",), ("int8", rng.randrange(-128, 128)), ("text", b"hi"), ("true",)]))
     if verb == "open":
         return (verb, name, rng.choice(["list", "object", "object"]))
+    if verb == "return":
+        return (verb, returned(rng, inner))
     return (verb, rng.random() < 0.3) if verb == "unique" else (verb,)
+
+
+def returned(rng, inner):
+    """The mark that a return goes to, mostly one that is set."""
+    marks = inner.marks if inner else 0
+    return rng.choice([0, 1, 1, 2, marks, marks, max(marks - 1, 0), marks + 1 if marks < TOP else 16, 17, TOP])
 
 
 def random_call(rng, b):
@@ -159,9 +170,11 @@ def random_call(rng, b):
     if named:
         name = rng.choice(b.names()) if rng.random() < 0.4 and not b.broken(names=True) and b.r.names_used else random_name(rng)
     if inner is None:
-        weights = (5, 3, 14, 1, 1, 1, 2) if b.r.value_used == 0 else (4, 2, 2, 1, 1, 1, 5)
+        weights = (5, 3, 14, 1, 1, 1, 2, 1, 1) if b.r.value_used == 0 else (4, 2, 2, 1, 1, 1, 5, 1, 1)
     else:
-        weights = (1, 14, 8, 6, 4, 2, 1)
+        weights = (1, 14, 8, 6, 4, 2, 1, 4, 5 if inner.marks else 0.5)
+    if "A9" not in b.on:
+        weights = (*weights[:7], 0, 0)
     verb = rng.choices(KINDS_OF_CALL, weights)[0]
     if verb == "register":
         return (verb, random_name(rng))
@@ -173,7 +186,7 @@ def random_call(rng, b):
         return (verb, rng.random() < 0.5)
     if verb == "finish":
         return (verb, bytes([rng.randrange(256)]) * rng.choice([0, 2, 3, 5, 9, 30, 30, 30]))
-    return (verb,)
+    return (verb, returned(rng, inner)) if verb == "return" else (verb,)
 
 
 def near(rng, n):
@@ -184,19 +197,28 @@ def random_poke(rng, b):
     """The words of a poke that the model's grammar has."""
     r, s = b.r, b.s
     depth = min(r.open, 64)
-    what = rng.choice(["count", "mark", "container", "container", "value", "namebytes", "nameend", "entry", "entry",
-                       *["floor"] * ("A10" in b.on)])
+    what = rng.choice(["count", "flag", "container", "container", "value", "namebytes", "nameend", "entry", "entry",
+                       *["floor"] * ("A10" in b.on), *["mark", "mark", "mark", "undo"] * ("A9" in b.on)])
     if what == "count":
-        field = rng.choice(["value_used", "names_used", "namebytes_used", "entries_used", "open"])
+        field = rng.choice(["value_used", "names_used", "namebytes_used", "entries_used", "open", *["undo_used"] * ("A9" in b.on)])
         return [field, near(rng, getattr(r, field))]
-    if what == "mark":
+    if what == "flag":
         return [rng.choice(["unique", "finished"]), rng.randrange(2)]
+    marked = [i for i in range(depth) if r.containers[i].marks]
+    if what == "mark" and marked:
+        i = rng.choice(marked)
+        k = rng.randint(1, min(r.containers[i].marks, 16))
+        key = rng.choice(["value", "names", "namebytes", "entries", "count", "undo", "unique"])
+        return ["mark", i, k, key, rng.randrange(2) if key == "unique" else near(rng, getattr(r.containers[i].slots[k - 1], key))]
+    if what == "undo" and len(s.undo) > 1:
+        return [what, rng.randrange(len(s.undo) // 2), rng.randrange(4), near(rng, rng.randrange(6))]
     if what == "floor":
         return ["floor", rng.choice([*FLOORS, *BAD_FLOORS])]
     if what == "container" and depth:
         i = rng.randrange(depth)
         c = r.containers[i]
-        key = rng.choice(["value", "names", "namebytes", "entries", "kind", "unique", "entry", "entry", *["count"] * 3 * ("A8" in b.on)])
+        key = rng.choice(["value", "names", "namebytes", "entries", "kind", "unique", "entry", "entry", *["count"] * 3 * ("A8" in b.on),
+                          *["undo", "undo", "marks"] * ("A9" in b.on)])
         if key == "kind":
             return ["container", i, key, rng.choice(["list", "object"])]
         if key == "unique":
@@ -219,19 +241,21 @@ def random_run(model, rng, number):
     big = rng.random()
     settings = {"unique": rng.randrange(2), "value": rng.choice([rng.randrange(12), rng.randrange(41), 40, 40]),
                 "namebytes": rng.choice([rng.randrange(5), 10, 12]), "names": rng.choice([rng.randrange(4), 6, 8]),
-                "entries": rng.choice([rng.randrange(6), 9, 12, 12]), "fill": rng.choice([0, 1, 238, 255, TOP])}
+                "entries": rng.choice([rng.randrange(6), 9, 12, 12]), "undo": rng.choice([rng.randrange(6), 6, 8]),
+                "fill": rng.choice([0, 1, 238, 255, TOP])}
     ample = big < 0.35
     if ample:
-        settings.update(unique=int(rng.random() < 0.2), value=60, namebytes=8, names=5, entries=20)
+        settings.update(unique=int(rng.random() < 0.2), value=60, namebytes=8, names=5, entries=20, undo=rng.choice([2, 4, 8, 8]))
     settings["floor"] = rng.choice([1, *floors(model)])
     b = model.fresh(settings, model.on)
     for c in b.r.containers:
-        c.value = c.names = c.namebytes = c.entries = rng.randrange(3)
+        c.value = c.names = c.namebytes = c.entries = c.undo = c.marks = rng.randrange(3)
     if rng.random() < 0.5:
         b.s.value[:] = bytes(rng.randrange(256) for _ in b.s.value)
         b.s.namebytes[:] = bytes(rng.randrange(256) for _ in b.s.namebytes)
         b.s.nameends[:] = [rng.randrange(20) for _ in b.s.nameends]
         b.s.entries[:] = [rng.randrange(20) for _ in b.s.entries]
+        b.s.undo[:] = [rng.randrange(20) for _ in b.s.undo]
     poked = rng.random() < 0.5
     steps = []
     for _ in range(rng.randrange(12, 28) if ample else rng.randrange(6, 18)):
@@ -258,11 +282,11 @@ def one_off(before, call):
         return b, call
 
     r, s = before.r, before.s
-    for field in ("value", "namebytes", "nameends", "entries"):
+    for field in ("value", "namebytes", "nameends", "entries", *["undo"] * ("A9" in before.on)):
         yield lambda f=field: state(lambda b: getattr(b.s, f).append(0))
         if len(getattr(s, field)):
             yield lambda f=field: state(lambda b: getattr(b.s, f).pop())
-    for field in ("value_used", "names_used", "namebytes_used", "entries_used", "open"):
+    for field in ("value_used", "names_used", "namebytes_used", "entries_used", "open", *["undo_used"] * ("A9" in before.on)):
         yield lambda f=field: state(lambda b: setattr(b.r, f, getattr(b.r, f) + 1))
         if getattr(r, field):
             yield lambda f=field: state(lambda b: setattr(b.r, f, getattr(b.r, f) - 1))
@@ -273,7 +297,7 @@ def one_off(before, call):
             yield lambda n=floor: state(lambda b: setattr(b.r, "floor", n))
     for i in range(min(r.open, 64)):
         c = r.containers[i]
-        for field in ("value", "names", "namebytes", "entries", *["count"] * ("A8" in before.on)):
+        for field in ("value", "names", "namebytes", "entries", *["count"] * ("A8" in before.on), *["undo", "marks"] * ("A9" in before.on)):
             for d in (1, -1):
                 if getattr(c, field) + d >= 0:
                     yield lambda i=i, f=field, d=d: state(
@@ -291,7 +315,12 @@ def one_off(before, call):
             entries += [("replaced", k, o) for k in (0, 1) for o in (0, 2)]
         for e in entries:
             yield lambda i=i, e=e: state(lambda b: setattr(b.r.containers[i], "entry", e))
-    for field, used in (("nameends", min(r.names_used, len(s.nameends))), ("entries", min(2 * r.entries_used, len(s.entries)))):
+        for k, m in enumerate(c.slots[:min(c.marks, 16)] if "A9" in before.on else ()):
+            for part in marks_one_off(m):
+                slots = (*c.slots[:k], part, *c.slots[k + 1:])
+                yield lambda i=i, slots=slots: state(lambda b: setattr(b.r.containers[i], "slots", slots))
+    for field, used in (("nameends", min(r.names_used, len(s.nameends))), ("entries", min(2 * r.entries_used, len(s.entries))),
+                        ("undo", min(2 * r.undo_used, len(s.undo)) if "A9" in before.on else 0)):
         for k in range(used):
             for d in (1, -1):
                 if 0 <= getattr(s, field)[k] + d <= TOP:
@@ -305,6 +334,14 @@ def one_off(before, call):
                     b.s.value[k] ^= bit
                 yield lambda m=turned: state(m)
     yield from ((lambda c=c: (twin(before), c)) for c in calls_one_off(call))
+
+
+def marks_one_off(mark):
+    yield mark._replace(unique=not mark.unique)
+    for field in ("value", "names", "namebytes", "entries", "undo", "count"):
+        yield mark._replace(**{field: getattr(mark, field) + 1})
+        if getattr(mark, field):
+            yield mark._replace(**{field: getattr(mark, field) - 1})
 
 
 def bytes_one_off(data):
@@ -329,6 +366,8 @@ def calls_one_off(call):
             yield from ((verb, n, last) for n in bytes_one_off(name))
         if verb == "append":
             yield from ((verb, name, v) for v in scalars_one_off(last))
+    elif verb == "return":
+        yield from ((verb, n) for n in (call[1] - 1, call[1] + 1) if 0 <= n <= TOP)
     elif verb == "finish":
         yield (verb, call[1] + b"\x07")
         if call[1]:
@@ -352,16 +391,16 @@ def scalars_one_off(v):
 
 def later(a, b):
     """The number b comes after a in the order of checking; 0 is none."""
-    return a != 0 and (b == 0 or b > a)
+    return a != 0 and (b == 0 or ORDER.index(b) > ORDER.index(a))
 
 
 # ---------------------------------------------------------------- written cases
 
 def written(model):
     """States and calls at the edges that random runs don't come to."""
-    def builder(value=40, namebytes=8, names=8, entries=12, fill=0, floor=1):
+    def builder(value=40, namebytes=8, names=8, entries=12, fill=0, floor=1, undo=8):
         return model.fresh({"unique": 0, "value": value, "namebytes": namebytes, "names": names, "entries": entries, "fill": fill,
-                            "floor": floor}, model.on)
+                            "floor": floor, "undo": undo}, model.on)
 
     def after(b, *calls):
         for c in calls:
@@ -429,6 +468,8 @@ def written(model):
     yield c, ("rollback",)
     if "A8" in model.on:
         yield from lists_without_entries(builder, after)
+    if "A9" in model.on:
+        yield from with_marks(builder, after)
     # the empty name, and name table and name bytes full to the last
     for namebytes, names in ((0, 1), (0, 0), (1, 1), (2, 1), (1, 2)):
         b = builder(namebytes=namebytes, names=names)
@@ -457,6 +498,49 @@ def written(model):
             setattr(b.r, field, n)
             for call in (("append", None, ("null",)), ("rollback",), ("close",), ("register", b"a")):
                 yield b, call
+
+
+def with_marks(builder, after):
+    """Marks to 16 and one more, of the innermost and of others, returns to each, and records undone: some by fields, some by children, some altered."""
+    mark, a, b = ("mark",), ("append", b"a", ("null",)), ("append", b"b", ("int8", 1))
+    calls = (mark, ("return", 0), ("return", 1), ("return", 2), ("return", 3), ("return", 15), ("return", 16), ("return", 17), ("return", TOP), a, b,
+             ("open", b"a", "list"), ("append", None, ("null",)), ("unique", True), ("close",), ("rollback",))
+    for kind in ("list", "object"):
+        for n in (15, 16):
+            full = after(builder(), ("open", None, kind), *[mark] * n)
+            for call in calls:
+                yield full, call
+            for marks in (15, 16, 17, TOP):
+                for inner in (False, True):
+                    other = after(full, ("open", b"a" if kind == "object" else None, "object")) if inner else twin(full)
+                    other.r.containers[0].marks = marks
+                    yield other, mark
+                    yield other, ("unique", False)
+    one = after(builder(), ("open", None, "object"), a, mark, a)
+    child = after(one, ("open", b"a", "list"))
+    for ready in (one, after(one, mark, b, a), after(one, mark, b, b, mark, a, b), child, after(child, ("close",)), after(child, ("rollback",)),
+                  after(child, mark, ("append", None, ("true",))), after(one, ("unique", True), mark), after(one, ("open", b"b", "object"), a, mark, a)):
+        for call in calls:
+            yield ready, call
+        for room in (0, 1, 2, 3, 5):
+            for used in {ready.r.undo_used, room // 2}:
+                other = twin(ready)
+                other.s.undo = other.s.undo[:room]
+                other.r.undo_used = used
+                for call in (a, ("open", b"b", "list"), ("return", 1), ("rollback",)):
+                    yield other, call
+    for records in ([0, 0, 0, 1], [1, 9, 0, 1], [0, 9, 7, 1], [7, 7, 7, 7], [0, 1, 0, 9], [1, 0, 0, 2]):
+        other = after(builder(), ("open", None, "object"), a, b, mark, a, a)
+        other.s.undo[:4] = records
+        yield other, ("return", 1)
+        other = twin(other)
+        other.r.containers[0].kind = "list"
+        other.r.containers[0].count = 4
+        yield other, ("return", 1)
+    deep = after(builder(entries=130), *[("open", None, "list")] + [mark, ("open", None, "list")] * 63)
+    for call in (mark, ("return", 1), ("close",), ("rollback",), ("append", None, ("null",))):
+        yield deep, call
+        yield after(deep, mark, mark), call
 
 
 PAYLOADS = {**dict(enumerate((0, 0, 0, 1, 2, 4, 8, 8, 5, 9, 17, 4, 8, 8, 4))), 17: 8, 18: 8, 19: 8, 20: 16}
@@ -543,15 +627,26 @@ def at_edges(builder, after, floor):
 
 def tight(model):
     """States in which all that number 1 asks just holds: all their one-off steps are taken, for every call."""
+    def end_of(marks, used, i):
+        return marks[i + 1][0] if i + 1 < len(marks) else used[0]
+
     def base(kinds, entry, marks, fields, ends, used, room):
         floor = floors(model)[-1 if room is wide else 0]
         b = model.fresh({"unique": 0, "value": room[0], "namebytes": room[2], "names": room[1], "entries": 2 * room[3], "fill": 3,
-                         "floor": floor}, model.on)
+                         "floor": floor, "undo": 2}, model.on)
         for i, kind in enumerate(kinds):
             value, names, text, entries = marks[i]
             b.r.containers[i] = model.Container(value=value, names=names, namebytes=text, entries=entries, kind=kind,
                                                 unique=i == 1, entry=entry if i else ("new",))
-            end = marks[i + 1][0] if i + 1 < len(kinds) else used[0]
+            if "A9" in model.on and room is full:
+                # a mark at its start and one at the used counts; the child has a record
+                c, last = b.r.containers[i], i + 1 == len(kinds)
+                c.undo, c.marks = int(i > 0), 2
+                own = (end_of(marks, used, i) - value + (not last)) if "A8" in model.on else 0
+                c.slots = (model.Mark(value, names, text, entries, 0, c.undo, False), model.Mark(*used, own, 1, True), *c.slots[2:])
+                b.r.undo_used = 1
+                b.s.undo[:2] = [1, 0]
+            end = end_of(marks, used, i)
             if "A8" in model.on:
                 b.r.containers[i].count = end - value + (i + 1 < len(kinds))
                 b.s.value[value:end] = bytes(end - value)
@@ -563,7 +658,7 @@ def tight(model):
         return b
 
     calls = (("register", b"a"), ("append", None, ("null",)), ("append", b"a", ("int8", 1)), ("open", None, "list"), ("open", b"b", "object"),
-             ("close",), ("rollback",), ("unique", True), ("finish", bytes(12)))
+             ("close",), ("rollback",), ("unique", True), ("finish", bytes(12)), *[("mark",), ("return", 1), ("return", 2)] * ("A9" in model.on))
     wide, full = (20, 4, 6, 4), (4, 2, 2, 3)
     for room in (wide, full):
         for kind in ("list", "object"):
@@ -646,21 +741,32 @@ def call_term(call):
         return f"(uniqueness {bools(call[1])})"
     if verb == "finish":
         return f"(finish {numbers(call[1])})"
-    return {"close": "close", "rollback": "rollBack"}[verb]
+    if verb == "return":
+        return f"(returnTo {call[1]})"
+    return {"close": "close", "rollback": "rollBack", "mark": "setMark"}[verb]
 
 
 def container_term(c):
     parent = "New" if c.entry[0] == "new" else f"(Replaced {c.entry[1]} {c.entry[2]})"
-    return f"box {c.value} {c.names} {c.namebytes} {c.entries} {parent} {bools(c.kind == 'object')} {bools(c.unique)}"
+    return f"box {c.value} {c.names} {c.namebytes} {c.entries} {c.undo} {parent} {bools(c.kind == 'object')} {bools(c.unique)} {c.marks}"
+
+
+def marks_term(containers):
+    """The table of marks as far as the open containers go; what is not set is 88."""
+    table = []
+    for c in containers:
+        rows = [(m.value, m.names, m.namebytes, m.entries, m.undo, m.count, int(m.unique)) for m in c.slots[:min(c.marks, 16)]]
+        table += [n for row in rows for n in row] + [88] * (7 * (16 - len(rows)))
+    return numbers(table)
 
 
 def state_term(b, entries):
     r, s = b.r, b.s
     containers = "(" + "".join(container_term(c) + " ∷ " for c in r.containers[:r.open]) + "[])"
     elements = "(" + "".join(f"{c.count} ∷ " for c in r.containers[:r.open]) + "[])"
-    return (f"(state {r.value_used} {r.names_used} {r.namebytes_used} {r.entries_used} {r.open} {bools(r.unique)} "
-            f"{bools(r.finished)} {r.floor} {containers} {elements} {numbers(s.value)} {numbers(s.namebytes)} {numbers(s.nameends)} "
-            f"{numbers(entries)})")
+    return (f"(state {r.value_used} {r.names_used} {r.namebytes_used} {r.entries_used} {r.undo_used} {r.open} {bools(r.unique)} "
+            f"{bools(r.finished)} {r.floor} {containers} {elements} {marks_term(r.containers[:r.open])} {numbers(s.value)} {numbers(s.namebytes)} "
+            f"{numbers(s.nameends)} {numbers(entries)} {numbers(s.undo)})")
 
 
 def step_term(step):
@@ -674,15 +780,16 @@ COMPARE = """-- Steps to be held against `step`, and the places of those that di
 use mathlib.Core.Bool.{Bool, true, false, cond, not, _&&_, _||_}
 use mathlib.Core.List.{List, [], _∷_, _++_}
 use Prim.Native.Nat.{ℕ, _+_, _-_}
-use lib.Dec.{eqb}
+use lib.Dec.{eqb, leb}
 use lib.ListN.{length, replicate}
 use Rattle.metadata.specs.Names.{same}
 use Rattle.semantics.specs.declared.Builder.{Builder}
 use Rattle.semantics.specs.declared.Container.{Container}
 use Rattle.semantics.specs.declared.Counts.{Counts}
+use Rattle.semantics.specs.declared.Mark.{Mark}
 use Rattle.semantics.specs.declared.ParentEntry.{ParentEntry}
 use Rattle.semantics.specs.declared.ParentEntry.the-variants.{New, Replaced}
-use Rattle.semantics.specs.Record.{Storage, storageOf, State, Call}
+use Rattle.semantics.specs.Record.{Storage, storageOf, State, Call, tableSize, marksOf}
 use Rattle.semantics.specs.Step.{Outcome, step, lentOutput}
 
 -- a step as the model takes it; of the containers after it those that are open
@@ -694,19 +801,24 @@ pub record Check : Type 0 where
   pub output : List ℕ
   pub written : ℕ
 
-abbrev pub box : ℕ → ℕ → ℕ → ℕ → ParentEntry → Bool → Bool → Container
-box value names text entries parent object unique = record { value = value; names = names; text = text; entries = entries; parent = parent; object = object; unique = unique }
+abbrev pub box : ℕ → ℕ → ℕ → ℕ → ℕ → ParentEntry → Bool → Bool → ℕ → Container
+box value names text entries undo parent object unique marks =
+    record { value = value; names = names; text = text; entries = entries; undo = undo; parent = parent; object = object; unique = unique; marks = marks }
 
 -- the containers that are listed, and others to 64
 abbrev pub padded : List Container → List Container
-padded cs = cs ++ replicate (64 - length cs) (box 9 8 7 6 (Replaced 5 4) true true)
+padded cs = cs ++ replicate (64 - length cs) (box 9 8 7 6 5 (Replaced 5 4) true true 3)
 
 -- so the elements
 abbrev pub filled : List ℕ → List ℕ
 filled ns = ns ++ replicate (64 - length ns) 99
 
-abbrev pub state : ℕ → ℕ → ℕ → ℕ → ℕ → Bool → Bool → ℕ → List Container → List ℕ → List ℕ → List ℕ → List ℕ → List ℕ → State
-state value names text entries depth unique finished floor containers elements valueBytes textBytes ends numbers =
+-- and the table of marks
+abbrev pub tabled : List ℕ → List ℕ
+tabled ms = ms ++ replicate (tableSize - length ms) 77
+
+abbrev pub state : ℕ → ℕ → ℕ → ℕ → ℕ → ℕ → Bool → Bool → ℕ → List Container → List ℕ → List ℕ → List ℕ → List ℕ → List ℕ → List ℕ → List ℕ → State
+state value names text entries undo depth unique finished floor containers elements marks valueBytes textBytes ends numbers records =
     record {
       builder =
           record {
@@ -716,6 +828,7 @@ state value names text entries depth unique finished floor containers elements v
                 record {
                   value = value;
                   entries = entries;
+                  undo = undo;
                   depth = depth;
                   dictionary = record { names = names; text = text };
                   unique = unique;
@@ -723,7 +836,8 @@ state value names text entries depth unique finished floor containers elements v
                   floor = floor;
                 };
           };
-      storage = storageOf valueBytes textBytes ends numbers;
+      marks = marks;
+      storage = storageOf valueBytes textBytes ends numbers records;
     }
 
 abbrev pub leaves : State → Call → State → List ℕ → ℕ → Check
@@ -737,6 +851,7 @@ whole s =
     let b = s .builder in
     record {
       builder = record { containers = padded (b .containers); elements = filled (b .elements); counts = b .counts };
+      marks = tabled (s .marks);
       storage = s .storage;
     }
 
@@ -755,7 +870,9 @@ alikeContainers k l =
     eqb (k .value) (l .value)
     && (eqb (k .names) (l .names)
     && (eqb (k .text) (l .text)
-    && (eqb (k .entries) (l .entries) && (alikeParents (k .parent) (l .parent) && (alike (k .object) (l .object) && alike (k .unique) (l .unique))))))
+    && (eqb (k .entries) (l .entries)
+    && (eqb (k .undo) (l .undo)
+    && (alikeParents (k .parent) (l .parent) && (alike (k .object) (l .object) && (alike (k .unique) (l .unique) && eqb (k .marks) (l .marks))))))))
 
 -- the second begins with containers like the first's
 unfoldable pub begins : List Container → List Container → Bool
@@ -770,24 +887,45 @@ counts (k ∷ ks) [] ns = false
 counts (k ∷ ks) (m ∷ ms) [] = false
 counts (k ∷ ks) (m ∷ ms) (n ∷ ns) = (k .object || eqb m n) && counts ks ms ns
 
+-- so the marks that are set; of an object their counts are free
+unfoldable pub alikeMarks : Bool → List Mark → List Mark → Bool
+alikeMarks object [] qs = true
+alikeMarks object (p ∷ ps) [] = false
+alikeMarks object (p ∷ ps) (q ∷ qs) =
+    eqb (p .value) (q .value)
+    && (eqb (p .names) (q .names)
+    && (eqb (p .text) (q .text)
+    && (eqb (p .entries) (q .entries)
+    && (eqb (p .undo) (q .undo) && ((object || eqb (p .count) (q .count)) && (alike (p .unique) (q .unique) && alikeMarks object ps qs))))))
+
+unfoldable pub marked : List Container → ℕ → List ℕ → List ℕ → Bool
+marked [] d ms ns = true
+marked (k ∷ ks) d ms ns =
+    let n = cond (leb (k .marks) 16) (k .marks) 16 in
+    alikeMarks (k .object) (marksOf ms d n) (marksOf ns d n) && marked ks (d + 1) ms ns
+
 unfoldable pub alikeCounts : Counts → Counts → Bool
 alikeCounts c d =
     eqb (c .value) (d .value)
     && (eqb (c .entries) (d .entries)
+    && (eqb (c .undo) (d .undo)
     && (eqb (c .depth) (d .depth)
     && (eqb (c .dictionary .names) (d .dictionary .names)
     && (eqb (c .dictionary .text) (d .dictionary .text)
-    && (alike (c .unique) (d .unique) && (alike (c .finished) (d .finished) && eqb (c .floor) (d .floor)))))))
+    && (alike (c .unique) (d .unique) && (alike (c .finished) (d .finished) && eqb (c .floor) (d .floor))))))))
 
 unfoldable pub alikeStorage : Storage → Storage → Bool
-alikeStorage s t = same (s .value) (t .value) && (same (s .text) (t .text) && (same (s .ends) (t .ends) && same (s .entries) (t .entries)))
+alikeStorage s t =
+    same (s .value) (t .value)
+    && (same (s .text) (t .text) && (same (s .ends) (t .ends) && (same (s .entries) (t .entries) && same (s .undo) (t .undo))))
 
 unfoldable pub alikeStates : State → State → Bool
 alikeStates s t =
     alikeCounts (s .builder .counts) (t .builder .counts)
     && (begins (s .builder .containers) (t .builder .containers)
     && (counts (s .builder .containers) (s .builder .elements) (t .builder .elements)
-    && (eqb (length (t .builder .containers)) 64 && (eqb (length (t .builder .elements)) 64 && alikeStorage (s .storage) (t .storage)))))
+    && (marked (s .builder .containers) 0 (s .marks) (t .marks)
+    && (eqb (length (t .builder .containers)) 64 && (eqb (length (t .builder .elements)) 64 && alikeStorage (s .storage) (t .storage))))))
 
 unfoldable pub agrees : Check → Bool
 agrees k =
@@ -822,16 +960,18 @@ use Rattle.metadata.specs.Bytes.{joined, endsFrom, laidOut, dictionary}
 use Rattle.container.specs.Layout.{listHeaderAt, listHeader, objectHeaderAt, largest, objectHeader}
 use Rattle.container.specs.Entries.{entriesOf, putEntries, seek, misplaced}
 use Rattle.container.specs.Sort.{insert, sort}
+use Rattle.container.specs.Undo.{restore, replay}
 use Rattle.container.specs.Close.{fronted}
 use Rattle.measure.specs.Measure.{containerLength, valueLength, measured, wholeValues, startsIn}
 use Rattle.semantics.specs.declared.ParentEntry.the-variants.{New, Replaced}
-use Rattle.semantics.specs.Record.{fixed, bytes, uuid, register, append, openIn, close, rollBack, uniqueness, finish}
-use Rattle.semantics.specs.Record.{rising, chained}
+use Rattle.semantics.specs.Record.{fixed, bytes, uuid, register, append, openIn, close, rollBack, uniqueness, setMark, returnTo, finish}
+use Rattle.semantics.specs.Record.{rising, chained, markAt, marksOf, falling, marksHold}
 use Rattle.semantics.specs.Damage.{overUsed, unchained, badFloor, fallenEnds, misplacedInner, misplacedParent, uncounted, damagedParent}
 use Rattle.semantics.specs.Table.{header, numberOf}
 use Rattle.semantics.specs.Step.{registered, appended, opened, newContainer, entriesClosed, closed, rolledBack, finished, dictionaryOf, after, step}
+use Rattle.semantics.specs.Step.{withMarks, putMark, entriesReturned, returned}
 use Rattle.semantics.specs.Step as steps
-use Rattle.agree.specs.Compare.{Check, box, state, leaves, refuses, alike, alikeParents, alikeContainers, begins, counts}
+use Rattle.agree.specs.Compare.{Check, box, state, leaves, refuses, alike, alikeParents, alikeContainers, begins, counts, alikeMarks, marked}
 use Rattle.agree.specs.Compare.{alikeCounts, alikeStorage, alikeStates, agrees, faults}
 
 """
@@ -841,7 +981,8 @@ UNFOLDING = ("width widthAt le les number twos whole table follow rest utf8 writ
              "entriesOf putEntries seek misplaced insert sort fronted overUsed rising chained unchained badFloor fallenEnds misplacedInner "
              "misplacedParent uncounted damagedParent containerLength valueLength measured wholeValues startsIn header first numberOf "
              "registered appended opened newContainer entriesClosed closed rolledBack finished dictionaryOf after step steps.withUnique alike "
-             "alikeParents alikeContainers begins counts alikeCounts alikeStorage alikeStates agrees faults")
+             "alikeParents alikeContainers begins counts alikeCounts alikeStorage alikeStates agrees faults "
+             "restore replay markAt marksOf falling marksHold withMarks putMark entriesReturned returned alikeMarks marked")
 
 
 GROUP = 5  # steps in a theorem: antt limits what one may compute
@@ -996,10 +1137,11 @@ def main():
           f"{sum('tight' in s.origin for s in steps)} about tight states, {sum(s.origin == 'written' for s in steps)} written")
     print("floors: " + ", ".join(f"{floor} in {n}" for floor, n in sorted(collections.Counter(s.before.r.floor for s in steps).items())))
     print("number: met, just missed")
-    for n in range(17):
-        print(f"{n:6}: {met[n]}" + (f", {missed[n]}" if n else ""))
+    for n in (0, *sorted(ORDER)):
+        if n < 17 or met[n]:
+            print(f"{n:6}: {met[n]}" + (f", {missed[n]}" if n else ""))
     for k in KINDS_OF_CALL:
-        print(f"{k}, {kinds[k]}: " + ", ".join(f"number {n} {both[k, n]}" for n in range(17) if both[k, n]))
+        print(f"{k}, {kinds[k]}: " + ", ".join(f"number {n} {both[k, n]}" for n in (0, *ORDER) if both[k, n]))
     done = [s for s in steps if not s.number]
     below = [s for s in done if s.call[0] == "rollback" and s.before.r.open > 1]
     print("carried out: roll backs of a new child", sum(s.before.innermost().entry[0] == "new" for s in below),
@@ -1007,7 +1149,10 @@ def main():
           "; replaced fields", sum(s.call[0] in ("append", "open") and s.call[1] is not None
                                    and s.before.r.entries_used == s.after.r.entries_used for s in done),
           "; objects closed with two fields or more", sum(s.call[0] == "close" and s.before.innermost().kind == "object"
-                                                          and len(s.before.entry_range(s.before.r.open - 1)) > 1 for s in done))
+                                                          and len(s.before.entry_range(s.before.r.open - 1)) > 1 for s in done),
+          "; returns that undo records", sum(s.call[0] == "return" and s.after.r.undo_used < s.before.r.undo_used for s in done),
+          "that bring offsets back", sum(s.call[0] == "return" and s.after.s.entries != s.before.s.entries for s in done),
+          "; roll backs that free a child's record", sum(s.before.innermost().undo > s.after.r.undo_used for s in below))
     modules = [(i, steps[i:i + a.steps]) for i in range(0, len(steps), a.steps)]
     if a.only is not None:
         s = steps[a.only]

@@ -158,7 +158,7 @@ class Counts:
         self.left_out, self.finished_oracle, self.verbs, self.answers = (collections.Counter() for _ in range(4))
         self.inner_names = self.inner_runs = self.not_made = self.without = 0
         self.floors, self.beside, self.forms = (collections.Counter() for _ in range(3))
-        self.marks, self.lists = collections.Counter(on=0, off=0, ignored=0), collections.Counter()
+        self.sorted, self.lists, self.returns = collections.Counter(on=0, off=0, ignored=0), collections.Counter(), collections.Counter()
 
     def note(self, run, places):
         kind = run.kind
@@ -166,6 +166,7 @@ class Counts:
         self.inner_names += run.inner_names
         self.inner_runs += run.inner_names > 0
         self.lists += run.lists
+        self.returns += run.returns
         for call, answer in zip(run.calls, run.answers):
             if call[0] in scripts.BESIDE:
                 self.beside[call[0]] += 1
@@ -187,16 +188,16 @@ class Counts:
         elif places:
             self.oracle[kind] += len(places) - 1
             self.finished_oracle[kind] += any(run.answers[i].startswith("ok value") for i in places)
-            self.note_mark([run.calls[i] for i in places], [run.answers[i] for i in places])
+            self.note_sorted([run.calls[i] for i in places], [run.answers[i] for i in places])
 
-    def note_mark(self, calls, answers):
-        """How the mark of a finished run was held against the Rust."""
+    def note_sorted(self, calls, answers):
+        """How the sorted mark of a finished run was held against the Rust."""
         rolled = False
         for call, answer in zip(calls, answers):
             rolled = rolled or call[0] == "rollback" and answer.startswith("ok")
             if answer.startswith("ok value"):
                 first = int(answer.split(" dict=")[1][:2], 16)
-                self.marks["ignored" if rolled else "on" if first & 16 else "off"] += 1
+                self.sorted["ignored" if rolled else "on" if first & 16 else "off"] += 1
 
     def show(self):
         row = "{:<10} {:>8} {:>13} {:>12} {:>9} {:>10} {:>9}"
@@ -213,9 +214,12 @@ class Counts:
               + "; without a builder: " + (", ".join(f"{verb} {n}" for verb, n in sorted(self.beside.items())) or "none"))
         print(f"lists closed: {self.lists['closed']}, {self.lists['over 255']} of over 255 elements, {self.lists['no entry lent']} where no entry is "
               f"lent; not as many whole values as counted: {self.lists['refused']}")
+        r = self.returns
+        print(f"marks set: {r['set']}, {r['in lists']} in lists, {r['sixteenth']} as the sixteenth; returned to {r['returned']}, {r['with records']} with "
+              f"undo records, {r['with offsets']} with offsets brought back; roll backs that free a child's record: {r['with a child']}")
         print(f"names registered with containers open: {self.inner_names}, in {self.inner_runs} runs")
-        print(f"sorted mark of runs finished in both: compared on {self.marks['on']}, compared off {self.marks['off']}, "
-              f"ignored after a roll back {self.marks['ignored']}")
+        print(f"sorted mark of runs finished in both: compared on {self.sorted['on']}, compared off {self.sorted['off']}, "
+              f"ignored after a roll back {self.sorted['ignored']}")
 
 
 def cut(answers, lengths):
@@ -296,7 +300,7 @@ def short_run(model, run, exact):
 
 def sample(model, args, per_kind=46):
     kept = []
-    for kind in [kind for kind in scripts.MAKERS if kind not in ("widths", "lists", "altered")]:
+    for kind in [kind for kind in scripts.MAKERS if kind not in ("widths", "lists", "marks", "altered")]:
         number = found = 0
         while found < per_kind:
             lines = short_run(model, scripts.make(model, args.seed, kind, number, short=True), number % 2 == 0)

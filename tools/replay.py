@@ -8,14 +8,15 @@ computed here. In crates/test_replay/data are
 
     python3 tools/replay.py [ROOT] [--answers [--with SET] [--model FOLDER]]
 
-All is hexadecimal; sizes are two bytes, highest first. The first line is the number of scripts. A script is a line of its mark,
-the number of its maker's refusal or 0, how many lines follow, the storage that it is lent (value, namebytes, names, entries; `fill` is
+All is hexadecimal; sizes are two bytes, highest first. The first line is the number of scripts. A script is a line of its uniqueness mark,
+the number of its maker's refusal or 0, how many lines follow, the storage that it is lent (value, namebytes, names, entries, undo; `fill` is
 not used) and its floor, of eight bytes; then a line for each call, poke and dump that has a builder, of three fields:
-- the call (CALLS), its argument (the mark, which scalar, the scale of packed decimal, or which poke), the refusal's number or 0, whether a name is given, the size
-  of the output or the place of a poke, and the sizes of the next two fields;
-- the name, the dictionary that a finish must give, or the five used counts that a dump must show (COUNTS), of eight bytes each;
-- the scalar: the bytes of a text, a binary, a UUID or packed decimal, the numbers of a date, of eight bytes each, else an integer of 16 bytes and the scale; the value that a finish or a dump
-  (with argument 1) must give; or a poke's bytes, or its numbers of eight bytes each."""
+- the call (CALLS), its argument (the uniqueness mark, which scalar, the scale of packed decimal, or which poke), the refusal's number or 0, whether a name is
+  given, the size of the output or the place of a poke, and the sizes of the next two fields;
+- the name, the dictionary that a finish must give, or the six used counts that a dump must show (DUMPED), of eight bytes each;
+- the scalar: the bytes of a text, a binary, a UUID or packed decimal, the numbers of a date, of eight bytes each, else an integer of 16 bytes and the scale; the
+  mark that a return goes to, of eight bytes; the value that a finish or a dump (with argument 1) must give; or a poke's bytes, or its numbers of eight bytes each.
+The place of a poke of mark K of container I is 16 * I + K - 1, and the pokes of a mark are in the order of its numbers in the table of marks."""
 import argparse
 import os
 import subprocess
@@ -23,15 +24,18 @@ import sys
 
 from landed import LANDED
 
-CALLS = ['', 'register', 'list', 'object', 'close', 'rollback', 'unique', 'bytes', 'uuid', 'scalar', 'finish', 'poke', 'dump', 'civil', 'packed']
+CALLS = ['', 'register', 'list', 'object', 'close', 'rollback', 'unique', 'bytes', 'uuid', 'scalar', 'finish', 'poke', 'dump', 'civil', 'packed',
+         'mark', 'return']
 BYTES = ['binary', 'string', 'short', 'text']
 SCALARS = ['null', 'true', 'false', 'int8', 'int16', 'int32', 'int64', 'float', 'double', 'date', 'time', 'tsmicros',
            'tsntzmicros', 'tsnanos', 'tsntznanos', 'dec4', 'dec8', 'dec16']
 CIVIL = ['ymd', 'ymdts', 'ymdtsntz']
 COUNTS = ['value_used', 'names_used', 'namebytes_used', 'entries_used', 'open']
+DUMPED = [*COUNTS, 'undo_used']
 POKES = [*COUNTS, 'unique', 'sorted', 'finished', 'container value', 'container names', 'container namebytes', 'container entries',
          'container kind', 'container unique', 'container entry new', 'container entry replaced', 'nameend', 'entry', 'value', 'namebytes', 'floor',
-         'container count']
+         'container count', 'undo_used', 'undo', 'container undo', 'container marks', 'mark value', 'mark names', 'mark namebytes', 'mark entries',
+         'mark undo', 'mark count', 'mark unique']
 
 
 def size(n):
@@ -72,9 +76,11 @@ def numbers(words):
 def poke(words):
     """Which one, its place, and its numbers or bytes."""
     what, place = words.pop(0), 0
-    if what not in (*POKES[:8], 'floor'):
+    if what not in (*POKES[:8], 'floor', 'undo_used'):
         place = int(words.pop(0))
-    if what == 'container':
+    if what == 'mark':
+        place = 16 * place + int(words.pop(0)) - 1
+    if what in ('container', 'mark'):
         what += ' ' + words.pop(0)
     if what == 'container entry':
         what += ' ' + words.pop(0)
@@ -100,6 +106,8 @@ def call(line, answer):
         verb = words[0]
     elif verb == 'unique':
         argument = int(words[0])
+    elif verb == 'return':
+        operand = numbers(words)
     elif verb == 'finish':
         out = int(settings(words)['out'])
     elif verb == 'poke':
@@ -109,7 +117,7 @@ def call(line, answer):
         name, operand = octets(expected['dict']), octets(expected['value'])
     elif answer.startswith('dump '):
         expected = settings(word for word in answer.split() if '=' in word)
-        name = numbers(expected[count] for count in COUNTS)
+        name = numbers(expected[count] for count in DUMPED)
         argument, operand = int('value' in expected), octets([expected.get('value', '')])
     head = bytes([CALLS.index(verb), argument, refusal(answer), given]) + size(out) + size(len(name)) + size(len(operand))
     return ','.join(field.hex() for field in (head, name, operand))
@@ -117,7 +125,7 @@ def call(line, answer):
 
 def start(line, answer, calls):
     s = settings(line.split()[1:])
-    sizes = [calls] + [int(s[key]) for key in ('value', 'namebytes', 'names', 'entries')]
+    sizes = [calls] + [int(s[key]) for key in ('value', 'namebytes', 'names', 'entries')] + [int(s.get('undo', 64))]
     return (bytes([int(s['unique']), refusal(answer)]) + b''.join(map(size, sizes)) + numbers([s.get('floor', 1)])).hex()
 
 

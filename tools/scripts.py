@@ -35,6 +35,8 @@ POWERS = (9, 9, 18, 18, 38, 38, *range(39))
 FAR = (0, 3, 4, 255, 256, 2**24, 2**31, 2**32 - 9, 2**32 - 4, 2**32 - 1)       # counts and lengths that seldom fit
 NOT_MADE = (("register", b"a"), ("append", None, ("null",)), ("open", None, "list"), ("close",), ("rollback",), ("unique", True),
             ("finish", 9), ("poke", "floor", 1), ("poke", "open", 0), ("dump",), ("dumpvalue",))
+NOT_MARKED = (("mark",), ("return", 1), ("poke", "undo_used", 1))
+UNDO_ROOMS = (64, 64, 64, 20, 8, 4, 2, 0, 5)
 
 
 # ---------------------------------------------------------------- scalars
@@ -219,9 +221,10 @@ class Run:
     no other, since the Rust has no such call. Under A2 there are dates among the scalars, under A4 packed decimal, and
     between the calls those that need no builder (A2, A4, A7). Under A10 a run has a floor, mostly 1; `made` is the place
     of the `new` that makes its builder, before which one is now and then refused. Under A8 `lists` counts the closes that walk a
-    list's data."""
+    list's data. Under A9 marks are set and returned to in a `marked` run, which says how often, and in no other, since the Rust has
+    no such calls; `returns` counts what came of them."""
 
-    def __init__(self, model, rng, held, pool=None, wrong=0.02, unique=None, inside=False, floor=None, **settings):
+    def __init__(self, model, rng, held, pool=None, wrong=0.02, unique=None, inside=False, marked=None, floor=None, **settings):
         self.model, self.rng, self.held, self.wrong = model, rng, held, wrong
         self.kinds = (*KINDS, *CIVIL * ("A2" in model.on), *("packed",) * 2 * ("A4" in model.on))
         self.asked = [verb for verb, request in BESIDE.items() if request in model.on]
@@ -230,9 +233,15 @@ class Run:
         self.session, self.lines, self.calls, self.answers = model.Session(model.on), [], [], []
         self.peak = dict.fromkeys(("value", "namebytes", "names", "entries", "out"), 0)
         self.inner_names = 0    # registered with containers open
-        self.lists = collections.Counter()
+        self.lists, self.returns = collections.Counter(), collections.Counter()
         unique = rng.random() < 0.2 if unique is None else unique
         fill = rng.choice(FILLS)
+        self.marked = 0
+        if "A9" in model.on:
+            self.marked = 2 * (rng.random() < 0.2) if marked is None else marked
+        if self.marked:
+            self.peak["undo"] = 0
+            settings = {"undo": rng.choice(UNDO_ROOMS), **settings}
         self.start({"unique": int(unique), **AMPLE, "fill": fill, **settings}, floor)
 
     def start(self, settings, floor):
@@ -240,7 +249,7 @@ class Run:
             if self.chance(0.03):
                 self.say(("new", {**settings, "floor": self.rng.choice(BAD_FLOORS)}))
                 for _ in range(self.rng.randrange(4)):
-                    self.beside() or self.say(self.rng.choice(NOT_MADE))
+                    self.beside() or self.say(self.rng.choice((*NOT_MADE, *NOT_MARKED * (self.marked > 0))))
             settings = {**settings, "floor": floor or self.rng.choice(FLOORS)}
         self.made = len(self.lines)
         self.say(("new", settings))
@@ -248,9 +257,10 @@ class Run:
     def say(self, call):
         line = self.model.format_call(call)
         call = self.model.parse_line(line)
-        walked = self.walked(call)
+        walked, undone = self.walked(call), self.undone(call)
         answer = self.session.answer(call)
         self.lists.update(walked(answer) if walked else ())
+        self.returns.update(undone() if undone and answer == "ok" else ())
         self.lines.append(line)
         self.calls.append(call)
         self.answers.append(answer)
@@ -259,6 +269,8 @@ class Run:
         r, p = self.record(), self.peak
         p["value"], p["names"] = max(p["value"], r.value_used), max(p["names"], r.names_used)
         p["namebytes"], p["entries"] = max(p["namebytes"], r.namebytes_used), max(p["entries"], 2 * r.entries_used)
+        if "undo" in p:
+            p["undo"] = max(p["undo"], 2 * r.undo_used)
         self.inner_names += call[0] == "register" and answer == "ok" and r.open > 0
         if call[0] == "finish":
             p["out"] = max(p["out"], len(self.session.written))
@@ -273,6 +285,20 @@ class Run:
         told = [*["over 255"] * (c.count > 255), *["no entry lent"] * bare]
         return (lambda answer: ["refused"] if answer == "refused 1" else ["closed", *told]) if c.kind == "list" else None
 
+    def undone(self, call):
+        """Of a call that sets a mark or undoes records, what came of it."""
+        b = self.session.builder
+        if "A9" not in self.model.on or b is None or call[0] not in ("mark", "return", "rollback") or not 0 < b.r.open <= 64:
+            return None
+        used, entries, inner = b.r.undo_used, list(b.s.entries[:2 * b.r.entries_used]), b.innermost()
+        if call[0] == "mark":
+            return lambda: ["set", *["sixteenth"] * (inner.marks == 16), *["in lists"] * (inner.kind == "list")]
+        if call[0] == "rollback":
+            below = inner.undo
+            return lambda: ["with a child"] * (b.r.undo_used < below)
+        return lambda: ["returned", *["with records"] * (b.r.undo_used < used),
+                        *["with offsets"] * (b.s.entries[:2 * b.r.entries_used] != entries[:2 * b.r.entries_used])]
+
     def record(self):
         return self.session.builder.r
 
@@ -280,6 +306,11 @@ class Run:
         """The innermost container's kind, or None (of an altered record too)."""
         r = self.record()
         return r.containers[r.open - 1].kind if 0 < r.open <= 64 else None
+
+    def set_marks(self):
+        """How many marks are set in the innermost container."""
+        r = self.record()
+        return min(r.containers[r.open - 1].marks, 16) if 0 < r.open <= 64 else 0
 
     def chance(self, p):
         return self.rng.random() < p
@@ -311,6 +342,15 @@ class Run:
     def open(self, kind=None):
         return self.say(("open", self.name(), kind or self.rng.choice(OBJECTS)))
 
+    def mark(self):
+        return self.say(("mark",))
+
+    def return_to(self):
+        """To a mark that is set, mostly, and more often to an early one."""
+        n = self.set_marks()
+        early = self.rng.randint(1, self.rng.randint(1, n)) if n else 0
+        return self.say(("return", early if n and self.chance(0.93) else self.rng.choice((0, n, n + 1, 16, 17, 2**64 - 1))))
+
     def finish(self, out=4096):
         return self.say(("finish", out))
 
@@ -336,8 +376,11 @@ class Run:
             weights = (weights[0], weights[1], 0.2, 0.4, weights[4])
         if self.inner() == "list":
             weights = (*weights[:4], 0)
-        verbs = ("append", "open", "close", "rollback", "unique", "register")
-        verb = self.rng.choices(verbs, (*weights, 2 if self.inside else 0))[0]
+        verbs = ("append", "open", "close", "rollback", "unique", "register", "mark", "return")
+        marks = (self.marked / 2, self.marked if self.set_marks() else self.marked / 20)
+        verb = self.rng.choices(verbs, (*weights, 2 if self.inside else 0, *marks))[0]
+        if verb in ("mark", "return"):
+            return self.mark() if verb == "mark" else self.return_to()
         if verb == "register":
             return self.register()
         if verb in ("append", "open"):
@@ -347,7 +390,10 @@ class Run:
     def anything(self):
         """Any call, whatever the state."""
         self.beside()
-        verb = self.rng.choice(("register", "append", "append", "open", "close", "rollback", "unique", "finish"))
+        verb = self.rng.choice(("register", "append", "append", "open", "close", "rollback", "unique", "finish",
+                                *("mark", "return") * (self.marked > 0)))
+        if verb in ("mark", "return"):
+            return self.mark() if verb == "mark" else self.return_to()
         if verb == "register" and "A1" in self.model.on and self.record().open and not self.inside:
             verb = "append"
         if verb == "register":
@@ -471,7 +517,7 @@ def tightened(new, other):
         sizes[key] = rng.choice([sizes[key] - 1, sizes[key] - 1, sizes[key], sizes[key] + 1, rng.randint(0, sizes[key])])
     sizes = {key: max(n, 0) for key, n in sizes.items()}
     out = sizes.pop("out")
-    run = new(unique=settings["unique"], floor=settings.get("floor"), **sizes)
+    run = new(unique=settings["unique"], floor=settings.get("floor"), marked=other.marked, **sizes)
     for call in other.calls[other.made + 1:]:
         run.say(("finish", out) if call[0] == "finish" else call)
     if run.answers[-1] == "refused 16":
@@ -534,6 +580,78 @@ def wide(new, number, short):
         run.say(("append", run.name(), (rng.choice(["binary", "text", "string"]), b"w" * rng.choice(sizes))))
     run.wind_up(rollback=0.02)
     return run
+
+
+# ---------------------------------------------------------------- marks
+
+def marked_fields(new):
+    """Few names, so that most fields are replaced."""
+    run = new(pool=[b"b", b"a", b"ab"][:new.rng.randint(1, 3)], unique=new.rng.random() < 0.1, marked=5)
+    run.open("object")
+    for _ in range(run.rng.randrange(5, 50)):
+        run.step((12, 5, 2, 4, 1))
+    run.wind_up()
+    return run
+
+
+def sixteen_marks(new):
+    """To 16 marks and one more, with values between them or none."""
+    run = new(pool=MIXED[:3], value=8192, marked=3)
+    for _ in range(run.rng.choice((1, 1, 1, 2, 4))):
+        run.open()
+    for _ in range(run.rng.choice((15, 16, 17, 18))):
+        run.append() if run.chance(0.4) else None
+        run.mark()
+    for _ in range(run.rng.randrange(10)):
+        run.rng.choice((run.mark, run.return_to, run.append, run.step))()
+    run.wind_up()
+    return run
+
+
+def few_records(new):
+    """Replaced fields where few undo records are lent, which returns, roll backs and closes free again."""
+    run = new(pool=[b"a", b"b"][:new.rng.randint(1, 2)], unique=False, undo=new.rng.choice((0, 1, 2, 3, 4, 5, 6)), marked=5)
+    run.open("object")
+    put(run, run.pool[0])
+    run.mark()
+    for _ in range(run.rng.randrange(5, 40)):
+        run.step((9, 5, 2, 4, 0.2))
+    run.wind_up()
+    return run
+
+
+def marked_lists(new):
+    """Lists, and objects within them, where few entries are lent, or none."""
+    run = new(pool=MIXED[:3], entries=new.rng.choice((0, 0, 2, 4, 6)), marked=6)
+    run.open("list")
+    for _ in range(run.rng.randrange(5, 40)):
+        run.step((6, 3, 2, 3, 1))
+    run.wind_up()
+    return run
+
+
+def marked_deep(new):
+    """Marks at each depth."""
+    run = new(pool=MIXED[:4], unique=False, value=8192, entries=300, marked=3)
+    for _ in range(run.rng.choice((64, 66, run.rng.randint(2, 63)))):
+        run.open()
+        for _ in range(run.rng.randrange(3)):
+            run.append() if run.chance(0.4) else run.mark()
+    while run.record().open:
+        for _ in range(run.rng.randrange(3)):
+            run.rng.choice((run.return_to, run.return_to, run.append, run.mark))()
+        if run.chance(0.3) or run.say(("close",)) != "ok":
+            run.say(("rollback",))
+    run.wind_up()
+    return run
+
+
+def marks(new, number, short):
+    """Marks and returns to them; now and then over storages just enough or just too small."""
+    if "A9" not in new.model.on:
+        return replaced(new, number, short)
+    run = (sixteen_marks if number % 12 == 2 else marked_deep if number % 12 == 8 else (marked_fields, few_records, marked_lists)[number % 3])(new)
+    return tightened(new, run) if run.chance(0.2) else run
 
 
 # ---------------------------------------------------------------- the widths' edges
@@ -698,6 +816,72 @@ def poke_count(run):
         run.say(("poke", "container", i, "count", min(max(0, n), 2**64 - 1)))
 
 
+def poke_mark(run):
+    """A number of a mark that is set: one off, its neighbour's or just past it, or anything."""
+    r, rng = run.record(), run.rng
+    marked = [i for i in range(r.open if r.open <= 64 else 0) if r.containers[i].marks]
+    if not marked:
+        return poke_marks(run)
+    i = rng.choice([*marked, marked[-1]])
+    c = r.containers[i]
+    k, key = rng.randint(1, min(c.marks, 16)), rng.choice((*run.model.MARK_NUMBERS, "unique"))
+    if key == "unique":
+        return run.say(("poke", "mark", i, k, key, rng.randrange(2)))
+    used, start = (c.count, 0) if key == "count" else (getattr(r, key + "_used"), getattr(c, key))
+    numbers = [start, *(getattr(mark, key) for mark in c.slots[:min(c.marks, 16)]), used]
+    below, own, above = numbers[k - 1:k + 2]
+    near_by = (own - 1, own + 1, below, below - 1, above, above + 1, used, used + 1, start - 1)
+    n = rng.choice(near_by) if rng.random() < 0.9 else rng.choice((0, 2**32, 2**63, 2**64 - 1, rng.randrange(99)))
+    return run.say(("poke", "mark", i, k, key, min(max(0, n), 2**64 - 1)))
+
+
+def poke_marks(run):
+    """How many marks are set: one off, none, 16 or more; of one more its numbers, too, mostly such as would fit."""
+    r, rng = run.record(), run.rng
+    if not 0 < r.open <= 64:
+        return None
+    i = rng.choice([r.open - 1, r.open - 1, rng.randrange(r.open)])
+    c = r.containers[i]
+    if c.marks >= 16 or rng.random() < 0.4:
+        n = rng.choice((c.marks - 1, c.marks + 1, c.marks + 1, 0, 16, 17, 2**64 - 1))
+        return run.say(("poke", "container", i, "marks", min(max(0, n), 2**64 - 1)))
+    for key in run.model.MARK_NUMBERS:
+        used, start = (c.count, 0) if key == "count" else (getattr(r, key + "_used"), getattr(c, key))
+        low = getattr(c.slots[c.marks - 1], key) if c.marks else start
+        n = rng.choice((low, used, rng.randint(min(low, used), max(low, used)), used + (rng.random() < 0.1)))
+        run.say(("poke", "mark", i, c.marks + 1, key, min(n, 2**64 - 1)))
+    run.say(("poke", "mark", i, c.marks + 1, "unique", rng.randrange(2)))
+    return run.say(("poke", "container", i, "marks", c.marks + 1))
+
+
+def poke_undo(run):
+    """The used undo records, a container's starting undo count, or a record."""
+    r, b, rng = run.record(), run.session.builder, run.rng
+    what = rng.choice(("undo_used", "container", "container", "undo", "undo"))
+    if what == "undo_used":
+        return run.say(("poke", what, near(rng, r.undo_used, b.undo_room())))
+    if what == "container" and 0 < r.open <= 64:
+        i = rng.choice([r.open - 1, max(r.open - 2, 0), rng.randrange(r.open)])
+        others = [c.undo for c in r.containers[:r.open]]
+        n = rng.choice((*others, r.undo_used)) if rng.random() < 0.4 else near(rng, others[i], r.undo_used)
+        return run.say(("poke", what, i, "undo", min(n, 2**64 - 1)))
+    if b.undo_room():
+        k = rng.randrange(min(max(r.undo_used, 1), b.undo_room()))
+        return run.say(("poke", "undo", k, rng.randint(0, min(r.names_used, 3)), near(rng, 0, min(r.value_used, 99))))
+    return None
+
+
+def poke_undo_counts(run):
+    """Some undo records used, with starting undo counts that may fall from one open container to the next; the marks' are the used ones."""
+    r, b, rng = run.record(), run.session.builder, run.rng
+    used = rng.randint(0, min(b.undo_room(), 3))
+    run.say(("poke", "undo_used", used))
+    for i in range(r.open if r.open <= 64 else 0):
+        run.say(("poke", "container", i, "undo", rng.choice((used, used, rng.randint(0, used)))))
+        for k in range(min(r.containers[i].marks, 16)):
+            run.say(("poke", "mark", i, k + 1, "undo", used))
+
+
 def starts_of(model, data):
     """Where the values start that data begins with, and where the last one ends."""
     at = [0]
@@ -835,22 +1019,62 @@ def list_altered(new):
     return run
 
 
+def marks_altered(new):
+    """A container with marks, within others or not, with fields replaced under them and perhaps a child; its marks, undo counts or records altered,
+    then a call or two."""
+    rng = new.rng
+    run = new(value=rng.choice([120, 400]), namebytes=8, names=4, entries=rng.choice([6, 12, 24]), undo=rng.choice([2, 4, 6, 8]), pool=MIXED[:2],
+              wrong=0, unique=False, inside=True, marked=3)
+    for _ in range(rng.choice([0, 0, 0, 1, 2])):
+        run.open()
+        run.mark() if run.chance(0.3) else None
+    run.open("object" if run.chance(0.75) else "list")
+    for _ in range(rng.randint(2, 9)):
+        rng.choice((run.append, run.append, run.append, run.mark))()
+    for _ in range(16 if run.chance(0.08) else 0):
+        run.mark()
+    if run.chance(0.4):
+        run.open()
+        run.append() if run.chance(0.3) else None
+    for _ in range(rng.choice([1, 1, 1, 2, 3])):
+        rng.choice((poke_mark, poke_mark, poke_mark, poke_marks, poke_undo, poke_undo, poke_undo_counts))(run)
+    settle(run)
+    run.say(("dump",)) if run.chance(0.3) else None
+    for _ in range(rng.choice([1, 1, 2])):
+        run.step((2, 1, 2, 3, 1)) if run.chance(0.6) else run.return_to()
+    return run
+
+
 def settle(run):
     """Pokes all that a call may read, so that no answer rests on what document 01 leaves free."""
     r, b = run.record(), run.session.builder
     for i in range(r.open if r.open <= 64 else 0):
         c = r.containers[i]
-        count = c.count
         run.say(("poke", "container", i, "all", c.value, c.names, c.namebytes, c.entries, c.kind, int(c.unique), *c.entry))
-        if count and "A8" in run.model.on:
-            run.say(("poke", "container", i, "count", count))
+        if c.count and "A8" in run.model.on:
+            run.say(("poke", "container", i, "count", c.count))
+        if "A9" in run.model.on:
+            settle_marks(run, i, c)
     for k in range(min(r.entries_used, b.entries_room())):
         run.say(("poke", "entry", k, *b.s.entries[2 * k:2 * k + 2]))
     for k in range(min(r.names_used, b.names_room())):
         run.say(("poke", "nameend", k, b.s.nameends[k]))
+    for k in range(min(r.undo_used, b.undo_room()) if "A9" in run.model.on else 0):
+        run.say(("poke", "undo", k, *b.s.undo[2 * k:2 * k + 2]))
     data = bytes(b.s.namebytes[:r.namebytes_used])
     if data:
         run.say(("poke", "namebytes", 0, data.hex()))
+
+
+def settle_marks(run, i, c):
+    """The same of a container's starting undo count and its marks, which a poke of it whole made 0."""
+    for key in ("undo", "marks"):
+        if getattr(c, key):
+            run.say(("poke", "container", i, key, getattr(c, key)))
+    for k, mark in enumerate(c.slots[:min(c.marks, 16)], 1):
+        for key, n in mark._asdict().items():
+            if n:
+                run.say(("poke", "mark", i, k, key, int(n)))
 
 
 def altered(new, number, short):
@@ -862,9 +1086,12 @@ def altered(new, number, short):
         return many_elements(new, number // 40)
     if number % 3 == 1 and "A8" in new.model.on:
         return ended(list_altered(new))
+    if number % 3 == 2 and "A9" in new.model.on:
+        return ended(marks_altered(new))
     run = new(value=rng.choice([60, 120, 400]), namebytes=rng.choice([8, 30]), names=rng.choice([4, 12]),
-              pool=MIXED[:5], entries=rng.choice([5, 12, 25]), wrong=0.06, inside=True)
-    pokes = [*POKES, *[poke_floor] * ("A10" in new.model.on), *[poke_count, poke_data] * ("A8" in new.model.on)]
+              pool=MIXED[:5], entries=rng.choice([5, 12, 25]), wrong=0.06, inside=True, marked=3 if number % 2 else 0)
+    pokes = [*POKES, *[poke_floor] * ("A10" in new.model.on), *[poke_count, poke_data] * ("A8" in new.model.on),
+             *[poke_mark, poke_marks, poke_undo, poke_undo_counts] * ("A9" in new.model.on)]
     for _ in range(rng.randint(1, 3)):
         for _ in range(rng.randrange(9)):
             run.step()
@@ -886,8 +1113,9 @@ def ended(run):
     return run
 
 
-MAKERS = {f.__name__: f for f in (plain, deep, rollbacks, replaced, refusals, small, wide, widths, lists, altered)}
-SHARES = {"plain": 20, "deep": 15, "rollbacks": 17, "replaced": 15, "refusals": 12, "small": 15, "wide": 3, "widths": 5, "lists": 5, "altered": 8}
+MAKERS = {f.__name__: f for f in (plain, deep, rollbacks, replaced, refusals, small, wide, widths, lists, marks, altered)}
+SHARES = {"plain": 20, "deep": 15, "rollbacks": 17, "replaced": 15, "refusals": 12, "small": 15, "wide": 3, "widths": 5, "lists": 5, "marks": 8,
+          "altered": 8}
 
 
 class Maker:

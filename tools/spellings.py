@@ -5,7 +5,7 @@
 
 WRITER is variant-script; the model is tools/model, or that of another FOLDER, and answers by the requests of document 02
 in SET, else by those that have landed (landed.py). A run is one random script: signs, underscores and leading zeros in
-numbers, `0x`, capitals, COUNTxHEX, tabs, comments, line ends of three kinds, dates, packed decimal, batch files, pokes of all fields, now and
+numbers, `0x`, capitals, COUNTxHEX, tabs, comments, line ends of three kinds, dates, packed decimal, batch files, marks, pokes of all fields, now and
 then another `new`, one that is refused, and a line that is no call. Numbers of `new`, `finish` and pokes are those of the grammar, 0 to
 2^64 - 1. Every answer must be the model's; where the model cannot take a line, WRITER must stop there with status 2 and say
 which line it is.
@@ -22,6 +22,8 @@ MODEL = os.path.join(os.path.dirname(os.path.abspath(__file__)), "model")
 LARGE = (63, 64, 65, 255, 256, 2**32 - 1, 2**32, 2**63, 2**64 - 1)
 BITS = (7, 15, 31, 32, 63, 127, 128)
 NO_CALLS = ("close 1", "new size=1", "open tree", "call", "unique 2", "poke field 1", "poke container 64 value 0")
+NO_RETURNS = ("return", "return +1", "return 1_0", "return -1", "return x", "return 1 2", "mark 1", "poke mark 64 1 value 0", "poke mark 0 17 value 0",
+              "poke mark 0 1 kind 0", "poke mark 0 0 value 0", "poke mark 0 1 value", "poke undo 0 1", "poke container 0 marks", "new undo=x")
 
 
 FLOORS = ("1", "2", "3", "4", "+2", "03", "0_4", "1")
@@ -119,13 +121,24 @@ def poke(rng, model):
     entry = seldom(rng, ["replaced"], ["new", f"replaced {n[4]} {n[5]}", "new 4 5"])
     mark = rng.choice(model.CONTAINER_NUMBERS)
     part = rng.choice([f"{mark} {n[0]}", f"kind {kind}", f"unique {flag}", f"entry {entry}",
-                       f"all {n[0]} {n[1]} {n[2]} {n[3]} {kind} {flag} {entry}", *[f"count {n[0]}"] * 2 * ("A8" in model.on)])
+                       f"all {n[0]} {n[1]} {n[2]} {n[3]} {kind} {flag} {entry}", *[f"count {n[0]}"] * 2 * ("A8" in model.on),
+                       *[f"undo {n[0]}", f"marks {rng.choice(['0', '1', '+2', '0_3', '16', n[0]])}"] * ("A9" in model.on)])
     near = rng.randrange(4)
+    number_of = rng.choice([*(f"{key} {n[0]}" for key in model.MARK_NUMBERS), f"unique {flag}"])
+    marks = [f"undo_used {n[0]}", f"undo {near} {n[0]} {n[1]}",
+             f"mark {rng.choice(['0', '1', '+0', '63'])} {rng.choice(['1', '2', '+1', '16'])} {number_of}"]
     return "poke " + rng.choice([
+        *marks * ("A9" in model.on),
         f"{rng.choice(model.RECORD_NUMBERS)} {n[0]}", f"{rng.choice(model.RECORD_MARKS)} {flag}",
         f"container {rng.choice(['0', '0', '1', '1', '2', '+1', '63'])} {part}", f"container {near} {part}",
         f"{rng.choice(['value', 'namebytes'])} {near} {some_bytes(rng)}", f"nameend {near} {n[0]}", f"entry {near} {n[0]} {n[1]}",
         *[f"floor {rng.choice([*FLOORS, n[0]])}"] * ("A10" in model.on)])
+
+
+def marking(rng):
+    """Calls about marks, in a list."""
+    returned = rng.choice(["1", "1", "2", "01", "0", "17", "3", str(2**64 - 1)])
+    return [seldom(rng, NO_RETURNS, ["mark"]), "mark", f"return {returned}", f"return {returned}"]
 
 
 def line(rng, model, script):
@@ -134,7 +147,7 @@ def line(rng, model, script):
     text = seldom(rng, NO_CALLS, [
         appended, appended, appended, opened, opened, poked, poked, "register " + some_bytes(rng), "register", "close", "close",
         "rollback", "unique " + rng.choice("01"), "finish", "finish out=" + size(rng), "dump", "dumpvalue", "", "# nothing",
-        first_line(rng, model) if rng.random() < 0.3 else "close", *beside(rng, model)])
+        first_line(rng, model) if rng.random() < 0.3 else "close", *beside(rng, model), *marking(rng) * ("A9" in model.on)])
     behind = rng.choice([" # said", "#said", "\t", "  ", "\v", " \f", "\x1c", "\u00a0"])
     return rng.choice([text, text, text, text + behind, text.replace(" ", "\t ")])
 
@@ -144,6 +157,8 @@ def first_line(rng, model):
     settings = [f"{key}={number(rng) if key == 'fill' else size(rng)}" for key in keys]
     if "A10" in model.on and rng.random() < 0.6:
         settings.append("floor=" + rng.choice(BAD_FLOORS if rng.random() < 0.1 else FLOORS))
+    if "A9" in model.on and rng.random() < 0.5:
+        settings.insert(rng.randrange(len(settings) + 1), "undo=" + size(rng))
     return " ".join(["new", *settings, rng.choice(["", "unique=1", "unique=2"])])
 
 

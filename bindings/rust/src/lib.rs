@@ -25,6 +25,7 @@ mod packed;
 mod refusal;
 pub mod sys;
 mod variant;
+mod words;
 
 pub use batch::{batch_add, batch_start, BatchReader, BatchRecord, BatchWriter};
 pub use builder::{Buffer, Storage, VariantBuilder};
@@ -34,6 +35,9 @@ pub use packed::write_packed_decimal;
 pub use refusal::Refusal;
 pub use variant::Variant;
 
-/// How many state words a builder has: 8 counts, 64 containers of 9 words, and for each how many elements it has, if it is a list
+/// How many state words a builder has: 9 counts, 64 containers of 11 words, and for each how many elements it has, if it is a list
 /// (`crates/ffi/specs/Words.antt`).
-pub const WORDS: usize = 648;
+pub const WORDS: usize = 777;
+
+/// How many numbers the table of marks has: seven for each of 16 marks of each of 64 containers.
+pub const MARKS: usize = 7168;

@@ -61,6 +61,8 @@ rows! {
     18 NotPacked "packed decimal of no bytes or of more than 20, with a digit above 9 or with another sign"
     19 Malformed "a record of a batch file with a count below four, or with a dictionary length that does not fit it"
     21 NotBatch "no batch file: no bytes, or another version"
+    22 NoMark "a seventeenth mark in a container, a mark outside any, or a return to one that is not set"
+    23 UndoFull "no room for the offset of a field that is replaced under a mark: the undo records are full"
     24 FloorOutOfRange "a floor for widths that is not 1 to 4 bytes: no builder is made"
 }
 

@@ -3,13 +3,18 @@
 //! # Safety
 //!
 //! A call demands nothing of what the words and the storage hold, and is proved for all of it. The caller owes what no proof of it
-//! can see: each pointer is valid for the call, for as many items as the length behind it says (the words: `WORDS`; a UUID: 16; a
-//! number: one), for writing where it is `*mut`; and what is written overlaps nothing else that the call is given.
+//! can see: each pointer is valid for the call, for as many items as the length behind it says (the words: `WORDS`; the table of marks:
+//! `MARKS`; a UUID: 16; a number: one), for writing where it is `*mut`; and what is written overlaps nothing else that the call is given.
+//!
+//! Only `variant_mark` writes into the table of marks, and of what is there only marks that are set are read.
 //!
 //! An answer is 0, or the number of a refusal (`Refusal`), and then all is as it was.
-use crate::WORDS;
+use crate::{MARKS, WORDS};
 
 pub type Words = *mut [usize; WORDS];
+
+/// The table of marks, to be read.
+pub type Marks = *const [usize; MARKS];
 
 #[rustfmt::skip]
 extern "C" {
@@ -18,35 +23,67 @@ extern "C" {
 
     pub fn variant_add_field_name(
         words: Words,
+        marks: Marks,
         value: *const u8, value_len: usize,
         text: *mut u8, text_len: usize,
         ends: *mut usize, ends_len: usize,
         entries: *const usize, entries_len: usize,
+        undo: *const usize, undo_len: usize,
         name: *const u8, name_len: usize,
     ) -> u8;
 
     pub fn variant_close(
         words: Words,
+        marks: Marks,
         value: *mut u8, value_len: usize,
         text: *const u8, text_len: usize,
         ends: *const usize, ends_len: usize,
         entries: *mut usize, entries_len: usize,
+        undo: *const usize, undo_len: usize,
     ) -> u8;
 
     pub fn variant_rollback(
         words: Words,
+        marks: Marks,
         value: *const u8, value_len: usize,
         text: *const u8, text_len: usize,
         ends: *const usize, ends_len: usize,
         entries: *mut usize, entries_len: usize,
+        undo: *const usize, undo_len: usize,
+    ) -> u8;
+
+    /// One mark more in the innermost container; how many are set there then is its number. A seventeenth, or one outside any container, is
+    /// refused with 22.
+    pub fn variant_mark(
+        words: Words,
+        marks: *mut [usize; MARKS],
+        value: *const u8, value_len: usize,
+        text: *const u8, text_len: usize,
+        ends: *const usize, ends_len: usize,
+        entries: *const usize, entries_len: usize,
+        undo: *const usize, undo_len: usize,
+    ) -> u8;
+
+    /// Back to a mark of the innermost container, counted from 1, which stays set; later ones are gone. One that is not set is refused with 22.
+    pub fn variant_return_to(
+        words: Words,
+        marks: Marks,
+        value: *const u8, value_len: usize,
+        text: *const u8, text_len: usize,
+        ends: *const usize, ends_len: usize,
+        entries: *mut usize, entries_len: usize,
+        undo: *const usize, undo_len: usize,
+        mark: usize,
     ) -> u8;
 
     pub fn variant_append_value(
         words: Words,
+        marks: Marks,
         value: *mut u8, value_len: usize,
         text: *mut u8, text_len: usize,
         ends: *mut usize, ends_len: usize,
         entries: *mut usize, entries_len: usize,
+        undo: *mut usize, undo_len: usize,
         named: bool,
         name: *const u8, name_len: usize,
         code: u8,
@@ -59,10 +96,12 @@ extern "C" {
     /// other code is refused with 7, a date not in the calendar, or a time outside the day, with 17.
     pub fn variant_append_civil(
         words: Words,
+        marks: Marks,
         value: *mut u8, value_len: usize,
         text: *mut u8, text_len: usize,
         ends: *mut usize, ends_len: usize,
         entries: *mut usize, entries_len: usize,
+        undo: *mut usize, undo_len: usize,
         named: bool,
         name: *const u8, name_len: usize,
         code: u8,
@@ -76,10 +115,12 @@ extern "C" {
     /// with 18, then a magnitude or a scale too large with 7.
     pub fn variant_append_packed(
         words: Words,
+        marks: Marks,
         value: *mut u8, value_len: usize,
         text: *mut u8, text_len: usize,
         ends: *mut usize, ends_len: usize,
         entries: *mut usize, entries_len: usize,
+        undo: *mut usize, undo_len: usize,
         named: bool,
         name: *const u8, name_len: usize,
         scale: u8,
@@ -130,10 +171,12 @@ extern "C" {
     /// Of kind 0, binary; 1, String; 2, short text; 3, plain text. Any other kind is refused with 7, as an unknown code is.
     pub fn variant_append_bytes(
         words: Words,
+        marks: Marks,
         value: *mut u8, value_len: usize,
         text: *mut u8, text_len: usize,
         ends: *mut usize, ends_len: usize,
         entries: *mut usize, entries_len: usize,
+        undo: *mut usize, undo_len: usize,
         named: bool,
         name: *const u8, name_len: usize,
         kind: u8,
@@ -142,10 +185,12 @@ extern "C" {
 
     pub fn variant_append_uuid(
         words: Words,
+        marks: Marks,
         value: *mut u8, value_len: usize,
         text: *mut u8, text_len: usize,
         ends: *mut usize, ends_len: usize,
         entries: *mut usize, entries_len: usize,
+        undo: *mut usize, undo_len: usize,
         named: bool,
         name: *const u8, name_len: usize,
         uuid: *const [u8; 16],
@@ -153,39 +198,47 @@ extern "C" {
 
     pub fn variant_new_list(
         words: Words,
+        marks: Marks,
         value: *const u8, value_len: usize,
         text: *mut u8, text_len: usize,
         ends: *mut usize, ends_len: usize,
         entries: *mut usize, entries_len: usize,
+        undo: *mut usize, undo_len: usize,
         named: bool,
         name: *const u8, name_len: usize,
     ) -> u8;
 
     pub fn variant_new_object(
         words: Words,
+        marks: Marks,
         value: *const u8, value_len: usize,
         text: *mut u8, text_len: usize,
         ends: *mut usize, ends_len: usize,
         entries: *mut usize, entries_len: usize,
+        undo: *mut usize, undo_len: usize,
         named: bool,
         name: *const u8, name_len: usize,
     ) -> u8;
 
     pub fn variant_with_validate_unique_fields(
         words: Words,
+        marks: Marks,
         value: *const u8, value_len: usize,
         text: *const u8, text_len: usize,
         ends: *const usize, ends_len: usize,
         entries: *const usize, entries_len: usize,
+        undo: *const usize, undo_len: usize,
         unique: bool,
     ) -> u8;
 
     pub fn variant_finish(
         words: Words,
+        marks: Marks,
         value: *const u8, value_len: usize,
         text: *const u8, text_len: usize,
         ends: *const usize, ends_len: usize,
         entries: *const usize, entries_len: usize,
+        undo: *const usize, undo_len: usize,
         out: *mut u8, out_len: usize,
         written: *mut usize,
     ) -> u8;

@@ -164,9 +164,9 @@ fn named_in_an_object() {
 fn place_among_the_rows() {
     let (good, bad) = (date(2024, 2, 29), date(2023, 2, 29));
     let number = |b: &mut VariantBuilder, name: Option<&[u8]>, date: Date| {
-        let (before, value) = (*b.words(), b.storage_mut().value.to_vec());
+        let (before, value) = (b.words(), b.storage_mut().value.to_vec());
         let number = b.append_civil(name, date).map_or_else(Refusal::number, |()| 0);
-        assert!(number == 0 || *b.words() == before && b.storage_mut().value == value);
+        assert!(number == 0 || b.words() == before && b.storage_mut().value == value);
         number
     };
     let both = |b: &mut VariantBuilder, name: Option<&[u8]>| [number(b, name, bad), number(b, name, good)];

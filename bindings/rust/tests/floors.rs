@@ -146,9 +146,9 @@ fn lent_and_reset() {
     };
     assert_eq!(empty_list(&mut b), 5);
     for floor in BAD {
-        let before = *b.words();
+        let before = b.words();
         assert_eq!(b.reset_with_floor(false, floor), Err(Refusal::FloorOutOfRange));
-        assert_eq!(*b.words(), before);
+        assert_eq!(b.words(), before);
     }
     b.reset(true);
     assert_eq!((empty_list(&mut b), b.words()[5]), (5, 1));

@@ -11,7 +11,7 @@ use unchanged::{all_refused, finish, refused};
 use variant_writer::{Variant, VariantBuilder};
 
 /// Where the words stand that count elements, the outermost container's first.
-const ELEMENTS: usize = 584;
+const ELEMENTS: usize = 713;
 
 /// Without names and entries, and with a list open.
 fn opened(value: usize) -> VariantBuilder<'static> {

@@ -28,11 +28,11 @@ fn smallest(integer: i128, scale: u8) -> Variant<'static> {
 /// The value, or the number of the refusal, which leaves the builder as it was.
 fn stored(scale: u8, bytes: &[u8]) -> Result<Vec<u8>, u8> {
     let mut b = VariantBuilder::new();
-    let (words, value) = (*b.words(), b.storage_mut().value.to_vec());
+    let (words, value) = (b.words(), b.storage_mut().value.to_vec());
     match b.append_packed(None, scale, bytes) {
         Ok(()) => Ok(b.value().to_vec()),
         Err(refusal) => {
-            assert!(*b.words() == words && b.storage_mut().value == value, "{refusal} changed something");
+            assert!(b.words() == words && b.storage_mut().value == value, "{refusal} changed something");
             Err(refusal.number())
         }
     }
@@ -180,9 +180,9 @@ fn named_in_an_object() {
 #[test]
 fn place_among_the_rows() {
     let number = |b: &mut VariantBuilder, name: Option<&[u8]>, scale: u8, byte: u8| {
-        let (words, value) = (*b.words(), b.storage_mut().value.to_vec());
+        let (words, value) = (b.words(), b.storage_mut().value.to_vec());
         let number = b.append_packed(name, scale, &[byte]).map_or_else(Refusal::number, |()| 0);
-        assert!(number == 0 || *b.words() == words && b.storage_mut().value == value);
+        assert!(number == 0 || b.words() == words && b.storage_mut().value == value);
         number
     };
     let all = |b: &mut VariantBuilder, name: Option<&[u8]>| [(39, 0x5e), (39, 0x5c), (38, 0x5c)].map(|(s, byte)| number(b, name, s, byte));

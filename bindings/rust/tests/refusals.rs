@@ -144,6 +144,29 @@ fn full_and_grown() {
     assert_eq!(b.value(), [2, 2, 0, 1, 0, 5, 6, 3, 1, 0, 1, 0, 0]);
 }
 
+#[test]
+fn marks() {
+    let mut b = VariantBuilder::new().lend_undo(vec![9; 3]);
+    refused(22, &mut b, |b| b.mark().map(|_| ()));
+    refused(22, &mut b, |b| b.return_to(1));
+    b.new_object(None).unwrap();
+    refused(22, &mut b, |b| b.return_to(1));
+    b.append_value(Some(b"a"), ()).unwrap();
+    for number in 1..=16 {
+        assert_eq!(b.mark(), Ok(number));
+    }
+    refused(22, &mut b, |b| b.mark().map(|_| ()));
+    refused(22, &mut b, |b| b.return_to(0));
+    refused(22, &mut b, |b| b.return_to(17));
+    b.append_value(Some(b"a"), true).unwrap();
+    refused(23, &mut b, |b| b.append_value(Some(b"a"), ()));
+    refused(23, &mut b, |b| b.new_list(Some(b"a")));
+    b.return_to(1).unwrap();
+    b.append_value(Some(b"a"), false).unwrap();
+    b.close().unwrap();
+    assert_eq!(b.value(), [2, 1, 0, 1, 2, 0, 8]);
+}
+
 /// A batch file's refusals, and that of a record, behind which reading goes on.
 #[test]
 fn batch_files() {

@@ -44,10 +44,8 @@ fn pokes() {
     let answer = answers(script);
     let lines: Vec<&str> = answer.lines().skip(9).collect();
     let counts = "value_used=0 names_used=1 namebytes_used=1 entries_used=1";
-    assert_eq!(
-        lines[0],
-        format!("dump {counts} open=1 unique=0 sorted=- finished=0 floor=1 c0=object:0,0,0,0:1:-:count=- value= names=61 e0=0@0")
-    );
+    let record = "open=1 unique=0 sorted=- finished=0 undo_used=0 floor=1 c0=object:0,0,0,0:1:-:count=-:undo=0:marks=0";
+    assert_eq!(lines[0], format!("dump {counts} {record} value= names=61 e0=0@0 u="));
     assert_eq!(lines[1], "refused 10");
     assert!(lines[3].starts_with(&format!("dump {counts} open=65 ")) && lines[3].ends_with(" broken"));
     assert_eq!(lines[4], "refused 1");
@@ -58,19 +56,71 @@ fn lists() {
     let script = "new entries=0\nopen list\nappend null\nopen list\nappend int8 5\ndump\npoke container 0 count 3\ndump\nclose\n\
         poke container 0 all 0 0 0 0 list 0 new\nrollback\npoke container 0 count +2\npoke container 1 count 2\nclose\npoke container 1 count 1\n\
         close\nclose\nfinish\n";
-    let counts = "value_used=3 names_used=0 namebytes_used=0 entries_used=0 open=2 unique=0 sorted=- finished=0 floor=1";
-    let containers = |n| format!("dump {counts} c0=list:0,0,0,0:0:-:count={n} c1=list:1,0,0,0:0:new:count=1");
-    let first = format!("new\nok\nok\nok\nok\n{} value=000c05 names= e0=- e1=-\npoked\n", containers(2));
+    let counts = "value_used=3 names_used=0 namebytes_used=0 entries_used=0 open=2 unique=0 sorted=- finished=0 undo_used=0 floor=1";
+    let none = ":undo=0:marks=0";
+    let containers = |n| format!("dump {counts} c0=list:0,0,0,0:0:-:count={n}{none} c1=list:1,0,0,0:0:new:count=1{none}");
+    let first = format!("new\nok\nok\nok\nok\n{} value=000c05 names= e0=- e1=- u=\npoked\n", containers(2));
     let second = format!("{} broken\nrefused 1\npoked\nrefused 1\npoked\npoked\nrefused 1\npoked\nok\nok\n", containers(3));
     assert_eq!(answers(script), first + &second + "ok value=030200010700030100020c05 dict=010000\n");
+}
+
+/// The storage has room for one undo record.
+#[test]
+fn marks() {
+    let dump = |value, undo, marks, rest| {
+        format!(
+            "dump value_used={value} names_used=1 namebytes_used=1 entries_used=1 open=1 unique=0 sorted=- finished=0 undo_used={undo} \
+             floor=1 c0=object:0,0,0,0:0:-:count=-:undo=0:marks={marks} {rest}"
+        )
+    };
+    let first = dump(2, 1, 1, "m0.1=1,1,1,1,-,0:0 value=0004 names=61 e0=0@1 u=0@0");
+    let second = dump(2, 1, 2, "m0.1=1,1,1,1,-,0:0 m0.2=3,1,1,1,-,1:1 broken");
+    let third = dump(1, 0, 1, "m0.1=1,1,1,1,-,0:0 value=00 names=61 e0=0@0 u=");
+    let fourth = dump(1, 0, 0, "value=00 names=61 e0=0@0 u=");
+    let cases = [
+        ("new undo=3", "new"),
+        ("mark", "refused 22"),
+        ("open object", "ok"),
+        ("append name=61 null", "ok"),
+        ("mark # 1", "ok"),
+        ("append name=61 true", "ok"),
+        ("dump", &first),
+        ("append name=61 false", "refused 23"),
+        ("mark", "ok"),
+        ("return 3", "refused 22"),
+        ("poke mark 0 2 value 3", "poked"),
+        ("poke mark 0 2 unique 1", "poked"),
+        ("dump", &second),
+        ("return 01", "refused 1"),
+        ("poke mark 0 2 value 2", "poked"),
+        ("poke undo_used 2", "poked"),
+        ("return 1", "refused 1"),
+        ("poke undo_used 1", "poked"),
+        ("poke undo 0 0 0", "poked"),
+        ("return 01", "ok"),
+        ("dump", &third),
+        ("poke container 0 undo 1", "poked"),
+        ("close", "refused 1"),
+        ("poke container 0 undo 0", "poked"),
+        ("poke container 0 marks 17", "poked"),
+        ("close", "refused 1"),
+        ("poke container 0 all 0 0 0 0 object 0 new", "poked"),
+        ("dump", &fourth),
+        ("close", "ok"),
+        ("return 1", "refused 22"),
+        ("finish", "ok value=020100000100 dict=1101000161"),
+    ];
+    let asked: String = cases.iter().map(|(line, _)| format!("{line}\n")).collect();
+    let told: String = cases.iter().map(|(_, answer)| format!("{answer}\n")).collect();
+    assert_eq!(answers(&asked), told);
 }
 
 #[test]
 fn floors() {
     let script = "new floor=2\nopen object\nclose\nfinish\ndump\nnew\nopen list\npoke floor 3\nclose\npoke floor 5\ndump\nfinish\n";
-    let counts = "value_used=4 names_used=0 namebytes_used=0 entries_used=0 open=0 unique=0 sorted=- finished=1";
-    let altered = "value_used=5 names_used=0 namebytes_used=0 entries_used=0 open=0 unique=0 sorted=- finished=0";
-    let first = format!("new\nok\nok\nok value=16000000 dict=4100000000\ndump {counts} floor=2 value=16000000 names=\n");
+    let counts = "value_used=4 names_used=0 namebytes_used=0 entries_used=0 open=0 unique=0 sorted=- finished=1 undo_used=0";
+    let altered = "value_used=5 names_used=0 namebytes_used=0 entries_used=0 open=0 unique=0 sorted=- finished=0 undo_used=0";
+    let first = format!("new\nok\nok\nok value=16000000 dict=4100000000\ndump {counts} floor=2 value=16000000 names= u=\n");
     let second = format!("new\nok\npoked\nok\npoked\ndump {altered} floor=5 broken\nrefused 1\n");
     assert_eq!(answers(script), first + &second);
 }
@@ -155,14 +205,18 @@ fn days_and_dates() {
 /// After a refused `new`, as before any, no call has a builder; what is no call is found out all the same.
 #[test]
 fn no_builder() {
-    let calls = "register 61\nappend null\nappend ymd 1 1 0\nopen list\nclose\nrollback\nunique 1\nfinish\npoke floor 1\ndump\ndumpvalue\n";
-    let none = "no builder\n".repeat(11);
+    let calls =
+        "register 61\nappend null\nappend ymd 1 1 0\nopen list\nclose\nrollback\nunique 1\nmark\nreturn 1\nfinish\npoke floor 1\ndump\n\
+        dumpvalue\n";
+    let none = "no builder\n".repeat(13);
     assert_eq!(answers(calls), none);
     for floor in ["0", "5", "18446744073709551615"] {
         let script = format!("new\nappend null\nnew floor={floor}\n{calls}new floor=4\nfinish\n");
         assert_eq!(answers(&script), format!("new\nok\nrefused 24\n{none}new\nrefused 15\n"));
     }
-    for bad in ["append int8 128", "append ymd 1 1", "days 1 1", "civil", "close 1", "unique 2", "dump 1", "poke", "fnord"] {
+    for bad in
+        ["append int8 128", "append ymd 1 1", "days 1 1", "civil", "close 1", "unique 2", "mark 1", "return", "dump 1", "poke", "fnord"]
+    {
         assert_eq!(run(&[], bad).2, 2, "{bad}");
     }
 }
@@ -262,13 +316,21 @@ open tree
 close 1
 unique
 unique 2
+mark 1
+return
+return x
+return +1
+return -1
+return 1_0
+return 1 2
+return 18446744073709551616
 finish 3
 finish out=-1
 finish in=3
 new size=3
 new value=x
 new floor=x
-new undo=2
+new undo=x
 new value=18446744073709551615
 poke
 poke open
@@ -278,7 +340,19 @@ poke container 64 value 0
 poke container 64 count 0
 poke container 0 count
 poke container 0 count x
+poke container 0 undo
+poke container 0 marks x
 poke container 0 kind tree
+poke mark
+poke mark 0 1 value
+poke mark 0 1 kind list
+poke mark 0 1 value x
+poke mark 0 0 value 0
+poke mark 0 17 value 0
+poke mark 64 1 value 0
+poke undo_used
+poke undo 0 0
+poke undo 32 0 0
 poke value 4096 00
 poke nameend 64 0
 poke entry 128 0 0

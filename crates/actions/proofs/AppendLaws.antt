@@ -24,13 +24,13 @@ use Rattle.refusals.specs.Decide.{enterRows}
 use Rattle.refusals.proofs.RowLaws.{append-number, own-before, own-row, own-zero}
 use Rattle.actions.specs.declared.enter.Entered.{Entered}
 use Rattle.actions.specs.declared.own.Own.{Own}
-use Rattle.actions.specs.Actions.{EntersBy, Leaves, StoredAs, entriesPut, ownOf}
+use Rattle.actions.specs.Actions.{EntersBy, Leaves, StoredAs, entriesPut, ownOf, undoPut}
 use Rattle.actions.proofs.EnterLaws.{enter-clears}
 
 -- refused, by rows that are the append's: all is as it was
 pub append-refused : {v : View} {l : Storage} {nm : Option Name} (x : Scalars) (own : ℕ) {size : ℕ} {e : Entered} {text ends : List ℕ} → first (enterRows v l nm true false own size) ≡ numberOf v l (append nm x)
     → EntersBy v l nm true false size (first (enterRows v l nm true false own size)) e text ends → (e .number ≡ 0 → ⊥)
-    → Leaves v l (append nm x) (record { counts = e .counts; elements = e .elements; number = e .number }) (storageOf (l .value) text ends (l .entries))
+    → Leaves v l (append nm x) (record { counts = e .counts; elements = e .elements; number = e .number }) (storageOf (l .value) text ends (l .entries) (l .undo))
 append-refused {v} {l} {nm} x own {size} rows a z =
     let n = a .number ∙ rows in
     let y = ne-eqb (first (enterRows v l nm true false own size)) 0 (λ p. z (a .number ∙ p)) in
@@ -52,15 +52,15 @@ module _ {v : View} {l : Storage} {nm : Option Name} (x : Scalars) {own size : �
   rows : first (enterRows v l nm true false own size) ≡ numberOf v l (append nm x)
   rows = append-rows v l nm x o s
 
-  pub append-stays : (e .number ≡ 0 → ⊥) → Leaves v l (append nm x) (record { counts = e .counts; elements = e .elements; number = e .number }) (storageOf (l .value) text ends (l .entries))
+  pub append-stays : (e .number ≡ 0 → ⊥) → Leaves v l (append nm x) (record { counts = e .counts; elements = e .elements; number = e .number }) (storageOf (l .value) text ends (l .entries) (l .undo))
   append-stays z = append-refused x own rows a z
 
   -- carried out
-  pub append-writes : {p : Placed} {value entries : List ℕ} → e .number ≡ 0 → entries ≡ entriesPut e (l .entries)
+  pub append-writes : {p : Placed} {value entries undo : List ℕ} → e .number ≡ 0 → entries ≡ entriesPut e (l .entries) → undo ≡ undoPut e (l .entries) (l .undo)
       → (own ≡ 0 → Writes (v .counts .value) (scalarBytes (scalarOf x)) (l .value) p value)
-      → Leaves v l (append nm x) (record { counts = e .counts; elements = e .elements; number = e .number }) (storageOf value text ends entries)
+      → Leaves v l (append nm x) (record { counts = e .counts; elements = e .elements; number = e .number }) (storageOf value text ends entries undo)
   unfolding appended
-  append-writes {p} {value} {entries} z g w =
+  append-writes {p} {value} {entries} {undo} z g h w =
       let n = sym (a .number) ∙ z in
       let y = eq-eqb (first (enterRows v l nm true false own size)) 0 n in
       let z' = eq-eqb (numberOf v l (append nm x)) 0 (sym rows ∙ n) in
@@ -68,7 +68,7 @@ module _ {v : View} {l : Storage} {nm : Option Name} (x : Scalars) {own size : �
       let k = own-zero v l nm true false own size n in
       let i = s k in
       let q : value ≡ write (v .counts .value) (scalarBytes (scalarOf x)) (l .value) = rw (w k .bytes, ← i, c .room) in
-      record { number = a .number ∙ rows; counts = rw (z', a .counts, y, i); elements = rw (z', a .elements, y); storage = rw (z', q, a .textLeft, a .endsLeft, y, g, a .entries n) }
+      record { number = a .number ∙ rows; counts = rw (z', a .counts, y, i); elements = rw (z', a .elements, y); storage = rw (z', q, a .textLeft, a .endsLeft, y, g, h, a .entries n, a .undo n) }
 
 -- ---- a scalar that is stored as one of fixed size
 
@@ -77,12 +77,12 @@ module _ {v : View} {l : Storage} {nm : Option Name} {s : Scalars} {x : Variant}
   pub stored-size : own ≡ 0 → size ≡ length (scalarBytes (scalarOf s))
   stored-size z = h ∙ ap (λ y. length (scalarBytes y)) (sym (t .scalar z))
 
-  pub stored-stays : (e .number ≡ 0 → ⊥) → Leaves v l (append nm s) (record { counts = e .counts; elements = e .elements; number = e .number }) (storageOf (l .value) text ends (l .entries))
+  pub stored-stays : (e .number ≡ 0 → ⊥) → Leaves v l (append nm s) (record { counts = e .counts; elements = e .elements; number = e .number }) (storageOf (l .value) text ends (l .entries) (l .undo))
   stored-stays z = append-stays s (t .number) stored-size a z
 
-  pub stored-writes : {p : Placed} {value entries : List ℕ} → e .number ≡ 0 → entries ≡ entriesPut e (l .entries) → Writes (v .counts .value) (scalarBytes (storedVariant x)) (l .value) p value
-      → Leaves v l (append nm s) (record { counts = e .counts; elements = e .elements; number = e .number }) (storageOf value text ends entries)
-  stored-writes {p} z g w = append-writes s (t .number) stored-size a {p = p} z g (λ k. rw (t .scalar k) w)
+  pub stored-writes : {p : Placed} {value entries undo : List ℕ} → e .number ≡ 0 → entries ≡ entriesPut e (l .entries) → undo ≡ undoPut e (l .entries) (l .undo) → Writes (v .counts .value) (scalarBytes (storedVariant x)) (l .value) p value
+      → Leaves v l (append nm s) (record { counts = e .counts; elements = e .elements; number = e .number }) (storageOf value text ends entries undo)
+  stored-writes {p} z g q w = append-writes s (t .number) stored-size a {p = p} z g q (λ k. rw (t .scalar k) w)
 
 -- one of fixed size itself
 pub fixed-stored : (x : Variant) {own : ℕ} {t : Bool} → own ≡ cond t 7 0 → t ≡ outOfRange x → StoredAs (fixed x) x own

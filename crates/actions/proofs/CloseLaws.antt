@@ -118,8 +118,8 @@ fronts-number {v} {l} k f =
 
 -- carried out
 pub leaves-closed : {v : View} {l : Storage} {m : ℕ} {r : Closed} {value entries : List ℕ} {used : ℕ} → Closable v l m → Fronts v l r value entries → r ≡ Done used
-    → Leaves v l close (record { counts = withCounts (v .counts) used (v .inner .entries) (v .counts .depth - 1) (v .counts .dictionary); elements = v .siblings; number = 0 })
-    (storageOf value (l .text) (l .ends) entries)
+    → Leaves v l close (record { counts = withCounts (v .counts) used (v .inner .entries) (v .inner .undo) (v .counts .depth - 1) (v .counts .dictionary); elements = v .siblings; number = 0 })
+    (storageOf value (l .text) (l .ends) entries (l .undo))
 unfolding closed
 leaves-closed {v} {l} {used = used} k f e =
     let z : numberOf v l close ≡ 0 = sym (fronts-number k f) ∙ ap closedNumber e in
@@ -128,6 +128,6 @@ leaves-closed {v} {l} {used = used} k f e =
 
 -- refused: no room, or a list's data that is not as many values as it counts
 pub leaves-refused : {v : View} {l : Storage} {m n : ℕ} {r : Closed} {value entries : List ℕ} → Closable v l m → Fronts v l r value entries → closedNumber r ≡ n → (n ≡ 0 → ⊥)
-    → Leaves v l close (record { counts = v .counts; elements = v .elements; number = n }) (storageOf value (l .text) (l .ends) entries)
+    → Leaves v l close (record { counts = v .counts; elements = v .elements; number = n }) (storageOf value (l .text) (l .ends) entries (l .undo))
 leaves-refused {v} {l} {n = n} {r = r} k f e z =
     rw (f .front .bytes, f .entriesLeft, ne-eqb (closedNumber r) 0 (λ h. z (sym e ∙ h))) (refuses (sym e ∙ fronts-number k f) z)

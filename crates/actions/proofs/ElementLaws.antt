@@ -13,7 +13,7 @@ use Rattle.semantics.specs.declared.ParentEntry.{ParentEntry}
 use Rattle.semantics.specs.declared.ParentEntry.the-variants.{New, Replaced}
 use Rattle.semantics.specs.declared.Builder.{Builder}
 use Rattle.semantics.specs.declared.View.{View}
-use Rattle.semantics.specs.Record.{Storage, Scalars, Call, register, append, openIn, close, rollBack, uniqueness, finish, viewOf, innerElements, parentElements, inList, isOpen}
+use Rattle.semantics.specs.Record.{Storage, Scalars, Call, register, append, openIn, close, rollBack, uniqueness, setMark, returnTo, finish, noMark, viewOf, innerElements, parentElements, inList, isOpen}
 use Rattle.semantics.specs.Table.{numberOf}
 use Rattle.semantics.specs.Step.{appended, carriedOut, closed, elementsAfter, elementsBack, elementsWith, registered, rolledBack}
 use Rattle.actions.specs.declared.Moved.{Moved}
@@ -33,22 +33,22 @@ put-same ns d = go (ltb 0 d) refl
     go false e = rw e
 
 -- a value entered
-pub put-more : (b : Builder) → elementsPut (b .elements) (b .counts .depth) (oneMore (inList (viewOf b)) (viewOf b .elements)) ≡ elementsWith (viewOf b) (b .elements)
-put-more b = go (isOpen (viewOf b)) (not (viewOf b .inner .object)) refl refl
+pub put-more : (b : Builder) (ms : List ℕ) → elementsPut (b .elements) (b .counts .depth) (oneMore (inList (viewOf b ms)) (viewOf b ms .elements)) ≡ elementsWith (viewOf b ms) (b .elements)
+put-more b ms = go (isOpen (viewOf b ms)) (not (viewOf b ms .inner .object)) refl refl
   where
-    go : (t o : Bool) → isOpen (viewOf b) ≡ t → not (viewOf b .inner .object) ≡ o
-        → elementsPut (b .elements) (b .counts .depth) (oneMore (inList (viewOf b)) (viewOf b .elements)) ≡ elementsWith (viewOf b) (b .elements)
+    go : (t o : Bool) → isOpen (viewOf b ms) ≡ t → not (viewOf b ms .inner .object) ≡ o
+        → elementsPut (b .elements) (b .counts .depth) (oneMore (inList (viewOf b ms)) (viewOf b ms .elements)) ≡ elementsWith (viewOf b ms) (b .elements)
     go true true e p = rw (p, e)
     go true false e p = rw (p, e) (set-again (b .elements) (b .counts .depth - 1))
     go false o e p = rw e
 
 -- and a container opened in it, which has none
-pub elements-opened : (b : Builder)
-    → elementsPut (elementsPut (b .elements) (b .counts .depth) (oneMore (inList (viewOf b)) (viewOf b .elements))) (b .counts .depth + 1) 0 ≡ set (elementsWith (viewOf b) (b .elements)) (b .counts .depth) 0
-elements-opened b =
+pub elements-opened : (b : Builder) (ms : List ℕ)
+    → elementsPut (elementsPut (b .elements) (b .counts .depth) (oneMore (inList (viewOf b ms)) (viewOf b ms .elements))) (b .counts .depth + 1) 0 ≡ set (elementsWith (viewOf b ms) (b .elements)) (b .counts .depth) 0
+elements-opened b ms =
     let d = b .counts .depth in
     let p : d + 1 - 1 ≡ d = omega arith in
-    rw (lt-ltb 0 (d + 1) (omega arith), p, put-more b)
+    rw (lt-ltb 0 (d + 1) (omega arith), p, put-more b ms)
 
 -- the parent's stand where it is innermost
 siblings-inner : (ns : List ℕ) (d : ℕ) → parentElements ns d ≡ innerElements ns (d - 1)
@@ -89,28 +89,32 @@ Stays (openIn nm object) = ⊥
 Stays close = Unit {0}
 Stays rollBack = Unit {0}
 Stays (uniqueness u) = ⊥
+Stays setMark = ⊥
+Stays (returnTo j) = ⊥
 Stays (finish out) = ⊥
 
-left-done : (b : Builder) (l : Storage) (c : Call) → Stays c
-    → elementsPut (b .elements) (carriedOut (viewOf b) l c .counts .depth) (elementsLeft (viewOf b) c) ≡ elementsAfter (viewOf b) c (b .elements)
+left-done : (b : Builder) (ms : List ℕ) (l : Storage) (c : Call) → Stays c
+    → elementsPut (b .elements) (carriedOut (viewOf b ms) l noMark c .counts .depth) (elementsLeft (viewOf b ms) noMark c) ≡ elementsAfter (viewOf b ms) noMark c (b .elements)
 unfolding registered appended closed rolledBack
-left-done b l (register n) h = put-same (b .elements) (b .counts .depth)
-left-done b l (append nm x) h = put-more b
-left-done b l (openIn nm object) h = absurd h
-left-done b l close h = put-siblings (b .elements) (b .counts .depth) (viewOf b .siblings) refl
-left-done b l rollBack h = put-back (viewOf b) (b .elements) (viewOf b .inner .parent) refl
-left-done b l (uniqueness u) h = absurd h
-left-done b l (finish out) h = absurd h
+left-done b ms l (register n) h = put-same (b .elements) (b .counts .depth)
+left-done b ms l (append nm x) h = put-more b ms
+left-done b ms l (openIn nm object) h = absurd h
+left-done b ms l close h = put-siblings (b .elements) (b .counts .depth) (viewOf b ms .siblings) refl
+left-done b ms l rollBack h = put-back (viewOf b ms) (b .elements) (viewOf b ms .inner .parent) refl
+left-done b ms l (uniqueness u) h = absurd h
+left-done b ms l setMark h = absurd h
+left-done b ms l (returnTo j) h = absurd h
+left-done b ms l (finish out) h = absurd h
 
 -- THE ELEMENTS that such a call leaves in the record
-pub elements-left : (b : Builder) (l : Storage) (c : Call) {r : Moved} {e : Storage} → Stays c → Leaves (viewOf b) l c r e
-    → elementsPut (b .elements) (r .counts .depth) (r .elements) ≡ cond (eqb (numberOf (viewOf b) l c) 0) (elementsAfter (viewOf b) c (b .elements)) (b .elements)
-elements-left b l c {r} {e} h q = rw (q .counts, q .elements) (go (eqb (numberOf (viewOf b) l c) 0))
+pub elements-left : (b : Builder) (ms : List ℕ) (l : Storage) (c : Call) {r : Moved} {e : Storage} → Stays c → Leaves (viewOf b ms) l c r e
+    → elementsPut (b .elements) (r .counts .depth) (r .elements) ≡ cond (eqb (numberOf (viewOf b ms) l c) 0) (elementsAfter (viewOf b ms) noMark c (b .elements)) (b .elements)
+elements-left b ms l c {r} {e} h q = rw (q .counts, q .elements) (go (eqb (numberOf (viewOf b ms) l c) 0))
   where
     go : (t : Bool)
-        → elementsPut (b .elements) ((cond t (carriedOut (viewOf b) l c .counts) (b .counts)) .depth) (cond t (elementsLeft (viewOf b) c) (viewOf b .elements))
-        ≡ cond t (elementsAfter (viewOf b) c (b .elements)) (b .elements)
-    go true = left-done b l c h
+        → elementsPut (b .elements) ((cond t (carriedOut (viewOf b ms) l noMark c .counts) (b .counts)) .depth) (cond t (elementsLeft (viewOf b ms) noMark c) (viewOf b ms .elements))
+        ≡ cond t (elementsAfter (viewOf b ms) noMark c (b .elements)) (b .elements)
+    go true = left-done b ms l c h
     go false = put-same (b .elements) (b .counts .depth)
 
 -- ---- a list with a child open in it counts at most one above its data bytes: without the sum, which a machine's numbers might not hold

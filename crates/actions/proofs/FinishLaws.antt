@@ -97,7 +97,7 @@ module _ {v : View} {l : Storage} {out : List ℕ} {r : Finished} {left : List �
 
   -- carried out
   pub ends-written : {size : ℕ} → r ≡ Written size
-      → Ends v l out (record { counts = record { value = v .counts .value; entries = v .counts .entries; depth = v .counts .depth; dictionary = v .counts .dictionary; unique = v .counts .unique; finished = true; floor = v .counts .floor }; number = 0; written = size }) left
+      → Ends v l out (record { counts = record { value = v .counts .value; entries = v .counts .entries; undo = v .counts .undo; depth = v .counts .depth; dictionary = v .counts .dictionary; unique = v .counts .unique; finished = true; floor = v .counts .floor }; number = 0; written = size }) left
   unfolding finished dictionaryOf
   ends-written {size} e =
       let z = same-number (ap finishNumber e) in

@@ -5,5 +5,6 @@ pub mod CloseLaws
 pub mod UndoLaws
 pub mod OpenLaws
 pub mod UniqueLaws
+pub mod MarkLaws
 pub mod FinishLaws
 pub mod ElementLaws

@@ -28,16 +28,17 @@ pub fn append_value_over(
     text: &mut [u8],
     ends: &mut [usize],
     entries: &mut [usize],
+    undo: &mut [usize],
     named: bool,
     name: &[u8],
     x: Variant,
 ) -> Moved
-    ensures { λ r. ⌜ Leaves v (storageOf (now (value .entry)) (now (text .entry)) (now (ends .entry)) (now (entries .entry)))
+    ensures { λ r. ⌜ Leaves v (storageOf (now (value .entry)) (now (text .entry)) (now (ends .entry)) (now (entries .entry)) (now (undo .entry)))
         (appendOf (nameOf named (now (name .entry))) (fixed x)) r
-        (storageOf (now (value .exit)) (now (text .exit)) (now (ends .exit)) (now (entries .exit))) ⌝ }
+        (storageOf (now (value .exit)) (now (text .exit)) (now (ends .exit)) (now (entries .exit)) (now (undo .exit))) ⌝ }
 {
     let n = row(out_of_range(x), 7, 0);
-    append_own(v, value, text, ends, entries, named, name, x, n)
+    append_own(v, value, text, ends, entries, undo, named, name, x, n)
 }
 
 // A date, or a date and a time of day.
@@ -47,17 +48,29 @@ pub fn append_civil_over(
     text: &mut [u8],
     ends: &mut [usize],
     entries: &mut [usize],
+    undo: &mut [usize],
     named: bool,
     name: &[u8],
     x: Civil,
 ) -> Moved
-    ensures { λ r. ⌜ Leaves v (storageOf (now (value .entry)) (now (text .entry)) (now (ends .entry)) (now (entries .entry)))
+    ensures { λ r. ⌜ Leaves v (storageOf (now (value .entry)) (now (text .entry)) (now (ends .entry)) (now (entries .entry)) (now (undo .entry)))
         (appendOf (nameOf named (now (name .entry))) (civil x)) r
-        (storageOf (now (value .exit)) (now (text .exit)) (now (ends .exit)) (now (entries .exit))) ⌝ }
+        (storageOf (now (value .exit)) (now (text .exit)) (now (ends .exit)) (now (entries .exit)) (now (undo .exit))) ⌝ }
 {
     let o = civil_own(x);
     let y = o.variant;
-    append_own(v, value, text, ends, entries, named, name, y, o.number)
+    append_own(
+        v,
+        value,
+        text,
+        ends,
+        entries,
+        undo,
+        named,
+        name,
+        y,
+        o.number,
+    )
 }
 
 // Packed decimal, with a scale.
@@ -67,18 +80,30 @@ pub fn append_packed_over(
     text: &mut [u8],
     ends: &mut [usize],
     entries: &mut [usize],
+    undo: &mut [usize],
     named: bool,
     name: &[u8],
     scale: u8,
     bytes: &[u8],
 ) -> Moved
-    ensures { λ r. ⌜ Leaves v (storageOf (now (value .entry)) (now (text .entry)) (now (ends .entry)) (now (entries .entry)))
+    ensures { λ r. ⌜ Leaves v (storageOf (now (value .entry)) (now (text .entry)) (now (ends .entry)) (now (entries .entry)) (now (undo .entry)))
         (appendOf (nameOf named (now (name .entry))) (packed scale (now (bytes .entry)))) r
-        (storageOf (now (value .exit)) (now (text .exit)) (now (ends .exit)) (now (entries .exit))) ⌝ }
+        (storageOf (now (value .exit)) (now (text .exit)) (now (ends .exit)) (now (entries .exit)) (now (undo .exit))) ⌝ }
 {
     let o = packed_own(bytes, scale);
     let x = o.variant;
-    append_own(v, value, text, ends, entries, named, name, x, o.number)
+    append_own(
+        v,
+        value,
+        text,
+        ends,
+        entries,
+        undo,
+        named,
+        name,
+        x,
+        o.number,
+    )
 }
 
 // A scalar that is stored as one of fixed size, with its own number, 0 where it has none.
@@ -88,15 +113,16 @@ fn append_own(
     text: &mut [u8],
     ends: &mut [usize],
     entries: &mut [usize],
+    undo: &mut [usize],
     named: bool,
     name: &[u8],
     x: Variant,
     own: u8,
 ) -> Moved
     ensures { λ r. ⌜ ((s : Scalars) → StoredAs s x own
-        → Leaves v (storageOf (now (value .entry)) (now (text .entry)) (now (ends .entry)) (now (entries .entry)))
+        → Leaves v (storageOf (now (value .entry)) (now (text .entry)) (now (ends .entry)) (now (entries .entry)) (now (undo .entry)))
         (appendOf (nameOf named (now (name .entry))) s) r
-        (storageOf (now (value .exit)) (now (text .exit)) (now (ends .exit)) (now (entries .exit)))) ⌝ }
+        (storageOf (now (value .exit)) (now (text .exit)) (now (ends .exit)) (now (entries .exit)) (now (undo .exit)))) ⌝ }
 {
     let size = variant_size(x);
     let e = enter_over(
@@ -105,6 +131,7 @@ fn append_own(
         text,
         ends,
         entries,
+        undo,
         named,
         name,
         true,
@@ -121,7 +148,7 @@ fn append_own(
     if e.number != 0 {
         return r;
     }
-    note(e, entries);
+    note(e, entries, undo);
     write_variant(value, v.counts.value, x);
     r
 }
@@ -132,14 +159,15 @@ pub fn append_bytes_over(
     text: &mut [u8],
     ends: &mut [usize],
     entries: &mut [usize],
+    undo: &mut [usize],
     named: bool,
     name: &[u8],
     kind: VariantBytes,
     bytes: &[u8],
 ) -> Moved
-    ensures { λ r. ⌜ Leaves v (storageOf (now (value .entry)) (now (text .entry)) (now (ends .entry)) (now (entries .entry)))
+    ensures { λ r. ⌜ Leaves v (storageOf (now (value .entry)) (now (text .entry)) (now (ends .entry)) (now (entries .entry)) (now (undo .entry)))
         (appendOf (nameOf named (now (name .entry))) (bytesOf kind (now (bytes .entry)))) r
-        (storageOf (now (value .exit)) (now (text .exit)) (now (ends .exit)) (now (entries .exit))) ⌝ }
+        (storageOf (now (value .exit)) (now (text .exit)) (now (ends .exit)) (now (entries .exit)) (now (undo .exit))) ⌝ }
 {
     let size = bytes_size(kind, bytes);
     let n = row(ill_formed(kind, bytes), 8, 0);
@@ -149,6 +177,7 @@ pub fn append_bytes_over(
         text,
         ends,
         entries,
+        undo,
         named,
         name,
         true,
@@ -165,7 +194,7 @@ pub fn append_bytes_over(
     if e.number != 0 {
         return r;
     }
-    note(e, entries);
+    note(e, entries, undo);
     write_bytes(value, v.counts.value, kind, bytes);
     r
 }
@@ -176,13 +205,14 @@ pub fn append_uuid_over(
     text: &mut [u8],
     ends: &mut [usize],
     entries: &mut [usize],
+    undo: &mut [usize],
     named: bool,
     name: &[u8],
     uuid: [u8; 16],
 ) -> Moved
-    ensures { λ r. ⌜ Leaves v (storageOf (now (value .entry)) (now (text .entry)) (now (ends .entry)) (now (entries .entry)))
+    ensures { λ r. ⌜ Leaves v (storageOf (now (value .entry)) (now (text .entry)) (now (ends .entry)) (now (entries .entry)) (now (undo .entry)))
         (appendOf (nameOf named (now (name .entry))) (uuidOf uuid)) r
-        (storageOf (now (value .exit)) (now (text .exit)) (now (ends .exit)) (now (entries .exit))) ⌝ }
+        (storageOf (now (value .exit)) (now (text .exit)) (now (ends .exit)) (now (entries .exit)) (now (undo .exit))) ⌝ }
 {
     let e = enter_over(
         v,
@@ -190,6 +220,7 @@ pub fn append_uuid_over(
         text,
         ends,
         entries,
+        undo,
         named,
         name,
         true,
@@ -206,7 +237,7 @@ pub fn append_uuid_over(
     if e.number != 0 {
         return r;
     }
-    note(e, entries);
+    note(e, entries, undo);
     write_uuid(value, v.counts.value, uuid);
     r
 }

@@ -15,12 +15,13 @@ pub fn finish_over(
     text: &[u8],
     ends: &[usize],
     entries: &[usize],
+    undo: &[usize],
     out: &mut [u8],
 ) -> Ended
-    ensures { λ r. ⌜ Ends v (storageOf (now (value .entry)) (now (text .entry)) (now (ends .entry)) (now (entries .entry)))
+    ensures { λ r. ⌜ Ends v (storageOf (now (value .entry)) (now (text .entry)) (now (ends .entry)) (now (entries .entry)) (now (undo .entry)))
         (now (out .entry)) r (now (out .exit)) ⌝ }
 {
-    let n = finish_number(v, value, text, ends, entries);
+    let n = finish_number(v, value, text, ends, entries, undo);
     let c = v.counts;
     if n != 0 {
         return Ended {
@@ -46,6 +47,7 @@ pub fn finish_over(
             counts: Counts {
                 value: c.value,
                 entries: c.entries,
+                undo: c.undo,
                 depth: c.depth,
                 dictionary: m,
                 unique: c.unique,

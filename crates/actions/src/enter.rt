@@ -18,10 +18,11 @@ ghost use Rattle.encoding.specs.Rows.{first};
 ghost use Rattle.semantics.specs.Step.{withCounts};
 ghost use Rattle.semantics.specs.Record.{storageOf};
 ghost use Rattle.refusals.specs.Decide.{enterRows, nameOf};
-ghost use Rattle.actions.specs.Actions.{EntersBy, Registers, entriesPut, oneMore, parentPut};
+ghost use Rattle.actions.specs.Actions.{EntersBy, Registers, entriesPut, oneMore, parentPut, recordPut, undoPut};
 
 // What a register, an append or an open leaves, up to the entry and the value's bytes: the number; the counts; the innermost container's
-// elements; the entry to be put, in the place of a live name's or as a fresh one; and the uniqueness mark that a child inherits.
+// elements; the entry to be put, in the place of a live name's or as a fresh one; whether the replaced one is recorded, and as which undo
+// record; and the uniqueness mark that a child inherits.
 pub struct Entered {
     pub counts: Counts,
     pub elements: usize,
@@ -30,6 +31,8 @@ pub struct Entered {
     pub offset: usize,
     pub live: bool,
     pub fresh: bool,
+    pub recorded: bool,
+    pub slot: usize,
     pub unique: bool,
     pub number: u8,
 }
@@ -40,6 +43,7 @@ pub fn enter_over(
     text: &mut [u8],
     ends: &mut [usize],
     entries: &[usize],
+    undo: &[usize],
     named: bool,
     name: &[u8],
     into: bool,
@@ -47,10 +51,10 @@ pub fn enter_over(
     own: u8,
     size: usize,
 ) -> Entered
-    ensures { λ r. ⌜ EntersBy v (storageOf (now (value .entry)) (now (text .entry)) (now (ends .entry)) (now (entries .entry)))
+    ensures { λ r. ⌜ EntersBy v (storageOf (now (value .entry)) (now (text .entry)) (now (ends .entry)) (now (entries .entry)) (now (undo .entry)))
         (nameOf named (now (name .entry))) into opens size
         (first
-        (enterRows v (storageOf (now (value .entry)) (now (text .entry)) (now (ends .entry)) (now (entries .entry)))
+        (enterRows v (storageOf (now (value .entry)) (now (text .entry)) (now (ends .entry)) (now (entries .entry)) (now (undo .entry)))
         (nameOf named (now (name .entry))) into opens own size)) r (now (text .exit)) (now (ends .exit)) ⌝ }
 {
     let d = enter_number(
@@ -59,6 +63,7 @@ pub fn enter_over(
         text,
         ends,
         entries,
+        undo,
         named,
         name,
         into,
@@ -78,7 +83,8 @@ pub fn enter_over(
     let open = 0 < c.depth;
     let object = v.inner.object;
     let fresh = (into & (open & object)) & !f.live;
-    let k = counts_with(c, size, fresh, opens, next);
+    let recorded = f.live & (0 < v.inner.marks);
+    let k = counts_with(c, size, fresh, recorded, opens, next);
     Entered {
         counts: k,
         elements: one_more(into & (open & !object), v.elements),
@@ -87,6 +93,8 @@ pub fn enter_over(
         offset: at,
         live: f.live,
         fresh: fresh,
+        recorded: recorded,
+        slot: c.undo,
         unique: u,
         number: 0,
     }
@@ -94,7 +102,7 @@ pub fn enter_over(
 
 // What a refused call leaves: all as it was.
 fn unentered(c: Counts, elements: usize, unique: bool, number: u8) -> Entered
-    ensures { λ r. ⌜ r ≡ record { counts = c; elements = elements; place = 0; id = 0; offset = 0; live = false; fresh = false; unique = unique; number = number } ⌝ }
+    ensures { λ r. ⌜ r ≡ record { counts = c; elements = elements; place = 0; id = 0; offset = 0; live = false; fresh = false; recorded = false; slot = 0; unique = unique; number = number } ⌝ }
 {
     Entered {
         counts: c,
@@ -104,21 +112,34 @@ fn unentered(c: Counts, elements: usize, unique: bool, number: u8) -> Entered
         offset: 0,
         live: false,
         fresh: false,
+        recorded: false,
+        slot: 0,
         unique: unique,
         number: number,
     }
 }
 
-// The counts with `size` value bytes more, an entry more where it is fresh, a container more where one opens, and that dictionary.
-fn counts_with(c: Counts, size: usize, fresh: bool, opens: bool, m: MetadataBuilder) -> Counts
+// The counts with `size` value bytes more, an entry more where it is fresh, an undo record more where one is taken, a container more where
+// one opens, and that dictionary.
+fn counts_with(
+    c: Counts,
+    size: usize,
+    fresh: bool,
+    recorded: bool,
+    opens: bool,
+    m: MetadataBuilder,
+) -> Counts
     requires { ⌜ c .value + size < 2 ^ 63 ⌝ }
     requires { ⌜ (fresh ≡ true → c .entries < 2 ^ 63) ⌝ }
+    requires { ⌜ (recorded ≡ true → c .undo < 2 ^ 63) ⌝ }
     requires { ⌜ (opens ≡ true → c .depth < 2 ^ 63) ⌝ }
-    ensures { λ r. ⌜ r ≡ withCounts c (c .value + size) (oneMore fresh (c .entries)) (oneMore opens (c .depth)) m ⌝ }
+    ensures { λ r. ⌜ r ≡ withCounts c (c .value + size) (oneMore fresh (c .entries)) (oneMore recorded (c .undo))
+        (oneMore opens (c .depth)) m ⌝ }
 {
     Counts {
         value: c.value + size,
         entries: one_more(fresh, c.entries),
+        undo: one_more(recorded, c.undo),
         depth: one_more(opens, c.depth),
         dictionary: m,
         unique: c.unique,
@@ -164,12 +185,14 @@ fn with_name(
     m
 }
 
-// The entry put; how it came about.
-pub fn note(e: Entered, entries: &mut [usize]) -> ParentEntry
-    ensures { λ r. ⌜ (r ≡ parentPut e (now (entries .entry))) × (now (entries .exit) ≡ entriesPut e (now (entries .entry))) ⌝ }
+// The entry put, and the undo record; how the entry came about.
+pub fn note(e: Entered, entries: &mut [usize], undo: &mut [usize]) -> ParentEntry
+    ensures { λ r. ⌜ (r ≡ parentPut e (now (entries .entry))) × (now (entries .exit) ≡ entriesPut e (now (entries .entry)))
+        × (now (undo .exit) ≡ undoPut e (now (entries .entry)) (now (undo .entry))) ⌝ }
 {
     if e.live {
         let former = replace_offset(entries, e.place, e.offset);
+        keep(e, former, undo);
         return ParentEntry::Replaced {
             id: e.id,
             offset: former,
@@ -184,4 +207,17 @@ pub fn note(e: Entered, entries: &mut [usize]) -> ParentEntry
         return ParentEntry::New;
     }
     ParentEntry::New
+}
+
+// The undo record of a replaced entry, where one is taken.
+fn keep(e: Entered, former: usize, undo: &mut [usize])
+    ensures { λ _. ⌜ now (undo .exit) ≡ recordPut e former (now (undo .entry)) ⌝ }
+{
+    if e.recorded {
+        let n = Entry {
+            id: e.id,
+            offset: former,
+        };
+        put_entry(undo, e.slot, n);
+    }
 }

@@ -9,7 +9,8 @@ use refusals::close_number;
 use semantics::Counts;
 use semantics::View;
 ghost use mathlib.Core.Path.{_≡_};
-ghost use Prim.Native.Nat.{_-_};
+ghost use mathlib.Core.List.{List};
+ghost use Prim.Native.Nat.{ℕ, _-_};
 ghost use Rattle.container.specs.Layout.{largest};
 ghost use Rattle.container.specs.Entries.{entriesOf, idsOf};
 ghost use Rattle.semantics.specs.Record.{close as closeOf, storageOf};
@@ -21,11 +22,12 @@ pub fn close_over(
     text: &[u8],
     ends: &[usize],
     entries: &mut [usize],
+    undo: &[usize],
 ) -> Moved
-    ensures { λ r. ⌜ Leaves v (storageOf (now (value .entry)) (now (text .entry)) (now (ends .entry)) (now (entries .entry))) closeOf r
-        (storageOf (now (value .exit)) (now (text .entry)) (now (ends .entry)) (now (entries .exit))) ⌝ }
+    ensures { λ r. ⌜ Leaves v (storageOf (now (value .entry)) (now (text .entry)) (now (ends .entry)) (now (entries .entry)) (now (undo .entry)))
+        closeOf r (storageOf (now (value .exit)) (now (text .entry)) (now (ends .entry)) (now (entries .exit)) (now (undo .entry))) ⌝ }
 {
-    let d = close_number(v, value, text, ends, entries);
+    let d = close_number(v, value, text, ends, entries, undo);
     let n = d.number;
     let c = v.counts;
     if n != 0 {
@@ -43,6 +45,7 @@ pub fn close_over(
                 counts: Counts {
                     value: used,
                     entries: v.inner.entries,
+                    undo: v.inner.undo,
                     depth: c.depth - 1,
                     dictionary: m,
                     unique: c.unique,
@@ -76,8 +79,9 @@ fn put_header(
     entries: &mut [usize],
 ) -> Closed
     requires { ⌜ most ≡ largest (idsOf (entriesOf (now entries) (v .inner .entries) (v .counts .entries - v .inner .entries))) ⌝ }
-    ensures { λ r. ⌜ Fronts v (storageOf (now (value .entry)) (now (text .entry)) (now (ends .entry)) (now (entries .entry))) r
-        (now (value .exit)) (now (entries .exit)) ⌝ }
+    ensures { λ r. ⌜ ((undo : List ℕ)
+        → Fronts v (storageOf (now (value .entry)) (now (text .entry)) (now (ends .entry)) (now (entries .entry)) undo) r
+        (now (value .exit)) (now (entries .exit))) ⌝ }
 {
     if v.inner.object {
         let f = Frame {

@@ -16,14 +16,15 @@
 // under the License.
 
 // Each call over pieces of the builder's record: what it sees of the record (`View`), and the lent slices. A piece decides all
-// rows of its call first and then acts; it gives back the number, the counts and a list's elements, of an open and of the
-// uniqueness mark the container. The calls over the whole record are in the crate `builder`, those over state words in `ffi`.
+// rows of its call first and then acts; it gives back the number, the counts and a list's elements, of an open, of the
+// uniqueness mark and of marks the container. The calls over the whole record are in the crate `builder`, those over state words in `ffi`.
 // Derived from `ParentState`, `ListState` and `ObjectState` of parquet-variant 60.1.0, src/builder.rs, src/builder/list.rs and
 // src/builder/object.rs (see NOTICE), as are the modules here. Changed: written in Rattle, over counts and lent slices.
 mod append;
 mod dictionary;
 mod enter;
 mod header;
+mod mark;
 mod open;
 mod own;
 mod undo;
@@ -39,6 +40,8 @@ pub use enter::Entered;
 pub use enter::enter_over;
 pub use enter::note;
 pub use header::close_over;
+pub use mark::mark_over;
+pub use mark::return_over;
 pub use open::child;
 pub use open::open_over;
 pub use open::register;
@@ -47,6 +50,7 @@ pub use own::civil_own;
 pub use own::packed_own;
 use semantics::Container;
 use semantics::Counts;
+use semantics::Mark;
 pub use undo::rollback_over;
 pub use unique::unique_over;
 
@@ -67,6 +71,21 @@ pub struct Opened {
 
 // The number of a call that sets the uniqueness mark, and the innermost container then.
 pub struct UniqueSet {
+    pub container: Container,
+    pub number: u8,
+}
+
+// The number of a call that sets a mark, what the mark holds, and the innermost container then.
+pub struct Marked {
+    pub container: Container,
+    pub mark: Mark,
+    pub number: u8,
+}
+
+// Those of a return: the number, the counts, and the innermost container with its elements.
+pub struct Returned {
+    pub counts: Counts,
+    pub elements: usize,
     pub container: Container,
     pub number: u8,
 }

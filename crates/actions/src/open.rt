@@ -24,10 +24,11 @@ pub fn register(
     text: &mut [u8],
     ends: &mut [usize],
     entries: &[usize],
+    undo: &[usize],
     name: &[u8],
 ) -> Moved
-    ensures { λ r. ⌜ Leaves v (storageOf (now (value .entry)) (now (text .entry)) (now (ends .entry)) (now (entries .entry)))
-        (registerOf (now (name .entry))) r (storageOf (now (value .entry)) (now (text .exit)) (now (ends .exit)) (now (entries .entry))) ⌝ }
+    ensures { λ r. ⌜ Leaves v (storageOf (now (value .entry)) (now (text .entry)) (now (ends .entry)) (now (entries .entry)) (now (undo .entry)))
+        (registerOf (now (name .entry))) r (storageOf (now (value .entry)) (now (text .exit)) (now (ends .exit)) (now (entries .entry)) (now (undo .entry))) ⌝ }
 {
     let e = enter_over(
         v,
@@ -35,6 +36,7 @@ pub fn register(
         text,
         ends,
         entries,
+        undo,
         true,
         name,
         false,
@@ -56,15 +58,29 @@ pub fn open_over(
     text: &mut [u8],
     ends: &mut [usize],
     entries: &mut [usize],
+    undo: &mut [usize],
     named: bool,
     name: &[u8],
     object: bool,
 ) -> Opened
-    ensures { λ r. ⌜ Opens v (storageOf (now (value .entry)) (now (text .entry)) (now (ends .entry)) (now (entries .entry)))
+    ensures { λ r. ⌜ Opens v (storageOf (now (value .entry)) (now (text .entry)) (now (ends .entry)) (now (entries .entry)) (now (undo .entry)))
         (nameOf named (now (name .entry))) object r
-        (storageOf (now (value .entry)) (now (text .exit)) (now (ends .exit)) (now (entries .exit))) ⌝ }
+        (storageOf (now (value .entry)) (now (text .exit)) (now (ends .exit)) (now (entries .exit)) (now (undo .exit))) ⌝ }
 {
-    let e = enter_over(v, value, text, ends, entries, named, name, true, true, 0, 0);
+    let e = enter_over(
+        v,
+        value,
+        text,
+        ends,
+        entries,
+        undo,
+        named,
+        name,
+        true,
+        true,
+        0,
+        0,
+    );
     let c = e.counts;
     if e.number != 0 {
         let inner = v.inner;
@@ -75,7 +91,7 @@ pub fn open_over(
             number: e.number,
         };
     }
-    let p = note(e, entries);
+    let p = note(e, entries, undo);
     let before = v.counts;
     Opened {
         counts: c,
@@ -85,7 +101,7 @@ pub fn open_over(
     }
 }
 
-// The container that opens: its starting marks are the counts before its own name, and of entries those after its own entry.
+// The container that opens: its starting marks are the counts before its own name, and of entries and undo records those after its own.
 pub fn child(before: Counts, e: Entered, parent: ParentEntry, object: bool) -> Container
     ensures { λ r. ⌜ r ≡ childOf before e parent object ⌝ }
 {
@@ -97,8 +113,10 @@ pub fn child(before: Counts, e: Entered, parent: ParentEntry, object: bool) -> C
         names: names,
         text: text,
         entries: e.counts.entries,
+        undo: e.counts.undo,
         parent: parent,
         object: object,
         unique: e.unique,
+        marks: 0,
     }
 }

@@ -6,6 +6,7 @@ use container::replace_offset;
 use metadata::from_parts;
 use refusals::rollback_number;
 use refusals::saturating_sub;
+use semantics::Container;
 use semantics::Counts;
 use semantics::ParentEntry;
 use semantics::View;
@@ -13,7 +14,8 @@ ghost use mathlib.Core.Path.{_≡_};
 ghost use mathlib.Core.Bool.{cond};
 ghost use Prim.Native.Nat.{_-_};
 ghost use Rattle.semantics.specs.Record.{rollBack, storageOf};
-ghost use Rattle.semantics.specs.Step.{countBack};
+ghost use Rattle.semantics.specs.Damage.{replacing};
+ghost use Rattle.semantics.specs.Step.{countBack, undoBack};
 ghost use Rattle.actions.specs.Actions.{Leaves, entriesUndone, siblingsBack};
 
 pub fn rollback_over(
@@ -22,11 +24,12 @@ pub fn rollback_over(
     text: &[u8],
     ends: &[usize],
     entries: &mut [usize],
+    undo: &[usize],
 ) -> Moved
-    ensures { λ r. ⌜ Leaves v (storageOf (now (value .entry)) (now (text .entry)) (now (ends .entry)) (now (entries .entry))) rollBack r
-        (storageOf (now (value .entry)) (now (text .entry)) (now (ends .entry)) (now (entries .exit))) ⌝ }
+    ensures { λ r. ⌜ Leaves v (storageOf (now (value .entry)) (now (text .entry)) (now (ends .entry)) (now (entries .entry)) (now (undo .entry)))
+        rollBack r (storageOf (now (value .entry)) (now (text .entry)) (now (ends .entry)) (now (entries .exit)) (now (undo .entry))) ⌝ }
 {
-    let d = rollback_number(v, value, text, ends, entries);
+    let d = rollback_number(v, value, text, ends, entries, undo);
     let c = v.counts;
     if d.number != 0 {
         return Moved {
@@ -37,13 +40,17 @@ pub fn rollback_over(
     }
     let k = v.inner;
     let p = k.parent;
-    let object = v.parent.object;
-    let count = undo(1 < c.depth, object, p, k.entries, d.place, entries);
+    let parent = v.parent;
+    let object = parent.object;
+    let below = 1 < c.depth;
+    let records = records_left(below, k, parent);
+    let count = entries_left(below, object, p, k.entries, d.place, entries);
     let cut = from_parts(k.names, k.text);
     Moved {
         counts: Counts {
             value: k.value,
             entries: count,
+            undo: records,
             depth: c.depth - 1,
             dictionary: cut,
             unique: c.unique,
@@ -57,7 +64,7 @@ pub fn rollback_over(
 
 // Below the top level an object's entry: the former offset again for a replaced one, one entry less for a new one. The result
 // is how many entries are used.
-fn undo(
+fn entries_left(
     below: bool,
     object: bool,
     parent: ParentEntry,
@@ -77,6 +84,23 @@ fn undo(
             replace_offset(entries, place, offset);
             count
         }
+    }
+}
+
+// Of the undo records those used when the child came, without its own.
+fn records_left(below: bool, k: Container, parent: Container) -> usize
+    ensures { λ r. ⌜ r ≡ cond below (undoBack k parent) (k .undo) ⌝ }
+{
+    let p = k.parent;
+    one_less(below & (replaces(p) & (0 < parent.marks)), k.undo)
+}
+
+fn replaces(parent: ParentEntry) -> bool
+    ensures { λ r. ⌜ r ≡ replacing parent ⌝ }
+{
+    match parent {
+        ParentEntry::New => false,
+        ParentEntry::Replaced { id: _, offset: _ } => true,
     }
 }
 

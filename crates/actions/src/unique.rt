@@ -16,11 +16,12 @@ pub fn unique_over(
     text: &[u8],
     ends: &[usize],
     entries: &[usize],
+    undo: &[usize],
     unique: bool,
 ) -> UniqueSet
-    ensures { λ r. ⌜ SetsUnique v (storageOf (now (value .entry)) (now (text .entry)) (now (ends .entry)) (now (entries .entry))) unique r ⌝ }
+    ensures { λ r. ⌜ SetsUnique v (storageOf (now (value .entry)) (now (text .entry)) (now (ends .entry)) (now (entries .entry)) (now (undo .entry))) unique r ⌝ }
 {
-    let n = unique_number(v, value, text, ends, entries);
+    let n = unique_number(v, value, text, ends, entries, undo);
     let k = v.inner;
     if n != 0 {
         return UniqueSet {
@@ -34,7 +35,7 @@ pub fn unique_over(
     }
 }
 
-fn with_unique(k: Container, unique: bool) -> Container
+pub(crate) fn with_unique(k: Container, unique: bool) -> Container
     ensures { λ r. ⌜ r ≡ withUnique k unique ⌝ }
 {
     let p = k.parent;
@@ -43,8 +44,10 @@ fn with_unique(k: Container, unique: bool) -> Container
         names: k.names,
         text: k.text,
         entries: k.entries,
+        undo: k.undo,
         parent: p,
         object: k.object,
         unique: unique,
+        marks: k.marks,
     }
 }

@@ -1,4 +1,4 @@
--- A call's answer, record and storage.
+-- A call's answer, record, table of marks and storage.
 use mathlib.Core.Path.{_≡_}
 use mathlib.Core.Bool.{Bool, true, false, cond}
 use mathlib.Core.List.{List, [], _∷_}
@@ -27,15 +27,16 @@ answerNumber (Refused n) = n
 abbrev pub answerOf : ℕ → Answer
 answerOf n = cond (eqb n 0) Done (Refused n)
 
-abbrev pub state : Builder → Storage → State
-state b l = record { builder = b; storage = l }
+abbrev pub state : Builder → List ℕ → Storage → State
+state b ms l = record { builder = b; marks = ms; storage = l }
 
 abbrev pub calledBy : Outcome → Called
 calledBy o = record { answer = answerOf (o .number); builder = o .state .builder }
 
--- what a call gives back and the storage then are those of the step, and so is its answer's number
-abbrev pub Does : Called → Storage → Outcome → Type 0
-Does r after o = (r ≡ calledBy o) × (after ≡ o .state .storage) × (answerNumber (r .answer) ≡ o .number)
+-- what a call gives back, the table of marks then and the storage then are those of the step, and so is its answer's number
+abbrev pub Does : Called → List ℕ → Storage → Outcome → Type 0
+Does r ms after o =
+    (r ≡ calledBy o) × (after ≡ o .state .storage) × (ms ≡ o .state .marks) × (answerNumber (r .answer) ≡ o .number)
 
 -- ---- finish, which also says how many bytes it wrote
 
@@ -56,10 +57,16 @@ finishAnswer n w = cond (eqb n 0) (finished.Written w) (finished.Refused n)
 abbrev pub finishCalledBy : Outcome → FinishCalled
 finishCalledBy o = record { answer = finishAnswer (o .number) (o .written); builder = o .state .builder }
 
--- what it gives back, the storage then and its output then, document 01's "each call's own", are those of the step, and so are
+-- what it gives back, the table and the storage then and its output then, document 01's "each call's own", are those of the step, and so are
 -- its answer's number and bytes
-abbrev pub Finishes : FinishCalled → Storage → List ℕ → Outcome → Type 0
-Finishes r after out o = (r ≡ finishCalledBy o) × (after ≡ o .state .storage) × (out ≡ o .output) × (finishNumber (r .answer) ≡ o .number) × (bytesWritten (r .answer) ≡ o .written)
+abbrev pub Finishes : FinishCalled → List ℕ → Storage → List ℕ → Outcome → Type 0
+Finishes r ms after out o =
+    (r ≡ finishCalledBy o)
+    × (after ≡ o .state .storage)
+    × (ms ≡ o .state .marks)
+    × (out ≡ o .output)
+    × (finishNumber (r .answer) ≡ o .number)
+    × (bytesWritten (r .answer) ≡ o .written)
 
 -- document 01, "A fresh builder: nothing used or open, .. no finish accepted, either uniqueness mark". Its containers and their elements,
 -- which are left free, are all empty.
@@ -75,17 +82,18 @@ Makes r u floor =
 -- ---- calls made one after the other
 
 -- document 01, "Each call gets the builder that the last one returned or left, and the same storage as it was left": calls made
--- so, each with its contract, from a builder over its storage; the builder that the last one returned, over the storage that it
--- left; and the dictionary in the output of the accepted finish
+-- so, each with its contract, from a builder over its table of marks and its storage; the builder that the last one returned, over the
+-- table and the storage that it left; and the dictionary in the output of the accepted finish
 pub data Chain : State → List Call → State → List ℕ → Type 0 where
   noCall : {s : State} → Chain s [] s []
-  aCall : {s u : State} {c : Call} {r : Called} {after : Storage} {cs : List Call} {d : List ℕ} → isFinish c ≡ false → Does r after (step s c)
-      → Chain (state (r .builder) after) cs u d → Chain s (c ∷ cs) u d
-  aFinish : {s u : State} {out left : List ℕ} {r : FinishCalled} {after : Storage} {cs : List Call} {d : List ℕ} → Finishes r after left (step s (finish out))
-      → Chain (state (r .builder) after) cs u d → Chain s (finish out ∷ cs) u (cond (eqb (finishNumber (r .answer)) 0) (take (bytesWritten (r .answer)) left) d)
+  aCall : {s u : State} {c : Call} {r : Called} {ms : List ℕ} {after : Storage} {cs : List Call} {d : List ℕ} → isFinish c ≡ false
+      → Does r ms after (step s c) → Chain (state (r .builder) ms after) cs u d → Chain s (c ∷ cs) u d
+  aFinish : {s u : State} {out left : List ℕ} {r : FinishCalled} {ms : List ℕ} {after : Storage} {cs : List Call} {d : List ℕ}
+      → Finishes r ms after left (step s (finish out)) → Chain (state (r .builder) ms after) cs u d
+      → Chain s (finish out ∷ cs) u (cond (eqb (finishNumber (r .answer)) 0) (take (bytesWritten (r .answer)) left) d)
 
 -- document 01, "A finished run, here and in demand 2, is a list of calls so run from a fresh builder, with an accepted finish"
 pub record FinishedChain (s : State) (cs : List Call) (u : State) (d : List ℕ) : Type 0 where
-  pub fresh : Fresh (s .builder)
+  pub fresh : Fresh s
   pub calls : Chain s cs u d
   pub finished : u .builder .counts .finished ≡ true

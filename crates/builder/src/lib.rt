@@ -17,7 +17,8 @@
 
 // Derived from `VariantBuilder`, `ListBuilder` and `ObjectBuilder` of parquet-variant 60.1.0, src/builder.rs, src/builder/list.rs
 // and src/builder/object.rs. Changed: written in Rattle; the nested `&mut` builders are one record with 64 containers, passed and
-// given back by value over four lent slices; `Drop` is the call `rollback`; every call is total and answers with a number.
+// given back by value over a lent table of marks and five lent slices; `Drop` is the call `rollback`; every call is total and answers with
+// a number. Marks are new.
 mod calls;
 mod view;
 
@@ -29,8 +30,10 @@ pub use calls::append_uuid;
 pub use calls::append_value;
 pub use calls::close;
 pub use calls::finish;
+pub use calls::mark;
 pub use calls::new_list;
 pub use calls::new_object;
+pub use calls::return_to;
 pub use calls::rollback;
 pub use calls::with_validate_unique_fields;
 use semantics::Builder;

@@ -1,19 +1,25 @@
-// The record, and what a call sees of it.
+// The record, and what a call sees of it and of the table of marks.
 use crate::Answer;
 use crate::Called;
 use actions::Moved;
+use marks::NUMBERS;
+use marks::marks_fit;
+use metadata::metadata_size;
+use metadata::num_field_names;
 use refusals::make_number;
 use refusals::saturating_sub;
 use semantics::Builder;
 use semantics::Container;
 use semantics::Counts;
+use semantics::Mark;
 use semantics::View;
 use semantics::fresh_counts;
 use semantics::no_container;
 ghost use mathlib.Core.Path.{_≡_};
-ghost use Prim.Native.Nat.{_<_};
+ghost use mathlib.Core.Bool.{_&&_};
+ghost use Prim.Native.Nat.{_≤_, _<_};
 ghost use lib.ListN.{set};
-ghost use Rattle.semantics.specs.Record.{chained, innerElements, innermost, parentElements, parentOf, viewOf};
+ghost use Rattle.semantics.specs.Record.{chained, innerElements, innermost, markNow, marksFit, marksHold, parentElements, parentOf, viewOf};
 ghost use Rattle.semantics.specs.Record.{encloses as enclosesOf, under as underOf};
 ghost use Rattle.actions.specs.Actions.{elementsPut};
 ghost use Rattle.builder.specs.Calls.{Makes, answerOf, freshOf};
@@ -52,8 +58,8 @@ fn fresh(unique: bool, floor: usize) -> Builder
     }
 }
 
-pub(crate) fn view_of(b: Builder) -> View
-    ensures { λ r. ⌜ r ≡ viewOf b ⌝ }
+pub(crate) fn view_of(b: Builder, marks: &[usize; NUMBERS]) -> View
+    ensures { λ r. ⌜ r ≡ viewOf b (now (marks .entry)) ⌝ }
 {
     let c = b.counts;
     let k = inner_of(b);
@@ -64,7 +70,7 @@ pub(crate) fn view_of(b: Builder) -> View
         elements: elements_of(b),
         parent: p,
         siblings: siblings_of(b),
-        chain: chain_of(b),
+        chain: holds(b, marks),
     }
 }
 
@@ -122,6 +128,17 @@ fn siblings_of(b: Builder) -> usize
     b.elements[d - 2]
 }
 
+// Does the chain of open containers hold, and do the marks that are set in them?
+fn holds(b: Builder, marks: &[usize; NUMBERS]) -> bool
+    ensures { λ r. ⌜ r ≡ (chained (b .containers) (b .elements) (b .counts .depth)
+        && marksHold (b .containers) (b .elements) (now (marks .entry)) (b .counts) (b .counts .depth)) ⌝ }
+{
+    if !chain_of(b) {
+        return false;
+    }
+    marks_hold(b, marks)
+}
+
 // Are at most 64 open, does no starting mark fall from one to the next, and does no list with a child open in it count too much?
 fn chain_of(b: Builder) -> bool
     ensures { λ r. ⌜ r ≡ chained (b .containers) (b .elements) (b .counts .depth) ⌝ }
@@ -146,6 +163,46 @@ fn chain_of(b: Builder) -> bool
     ok
 }
 
+// Are the marks that are set in each open container at most 16, and in order?
+fn marks_hold(b: Builder, marks: &[usize; NUMBERS]) -> bool
+    requires { ⌜ b .counts .depth ≤ 64 ⌝ }
+    ensures { λ r. ⌜ r ≡ marksHold (b .containers) (b .elements) (now (marks .entry)) (b .counts) (b .counts .depth) ⌝ }
+{
+    let cs = b.containers;
+    let ns = b.elements;
+    let c = b.counts;
+    let mut ok = true;
+    let mut i = c.depth;
+    while 0 < i {
+        i -= 1;
+        let k = cs[i];
+        ok = ok & fits_at(marks, i, k, ns[i], c);
+    }
+    ok
+}
+
+// Are those of the container at depth d, which has n elements? Most containers have none.
+fn fits_at(marks: &[usize; NUMBERS], d: usize, k: Container, n: usize, c: Counts) -> bool
+    ensures { λ r. ⌜ r ≡ marksFit (now (marks .entry)) d k (markNow c n (k .unique)) ⌝ }
+{
+    if k.marks == 0 {
+        return true;
+    }
+    let m = c.dictionary;
+    let names = num_field_names(m);
+    let text = metadata_size(m);
+    let present = Mark {
+        value: c.value,
+        names: names,
+        text: text,
+        entries: c.entries,
+        undo: c.undo,
+        count: n,
+        unique: k.unique,
+    };
+    marks_fit(marks, d, k, present)
+}
+
 // The step from a container of n elements to the one open in it; one above the data's bytes is that child.
 fn encloses(k: Container, n: usize, l: Container) -> bool
     ensures { λ r. ⌜ r ≡ enclosesOf k n l ⌝ }
@@ -157,7 +214,8 @@ fn encloses(k: Container, n: usize, l: Container) -> bool
 fn under(k: Container, l: Container) -> bool
     ensures { λ r. ⌜ r ≡ underOf k l ⌝ }
 {
-    (k.value <= l.value) & ((k.names <= l.names) & ((k.text <= l.text) & (k.entries <= l.entries)))
+    let entries = (k.entries <= l.entries) & (k.undo <= l.undo);
+    (k.value <= l.value) & ((k.names <= l.names) & ((k.text <= l.text) & entries))
 }
 
 pub(crate) fn answer_of(n: u8) -> Answer

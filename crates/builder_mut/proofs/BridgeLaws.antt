@@ -184,8 +184,8 @@ module _ (R : Reply) {M : Type 1} (𝓤 : URA M) (H : Heap 𝓤) (A : Atoms 𝓤
       move ! (14 ∷ 15 ∷ []) $ free1 ! $ move ! (12 ∷ 13 ∷ []) $ free1 ! $ move ! (3 ∷ []) $ frees-ps ! E ps bs $ move ! (0 ∷ 10 ∷ []) $ free1 ! $ move ! (7 ∷ 8 ∷ []) $ free1 ! $ move ! (5 ∷ 6 ∷ []) $ free1 ! $ move ! (3 ∷ 4 ∷ []) $ free1 ! $ move ! (2 ∷ []) $ frees-ts ! ps ts $
       by ! (exits c (ws .0) (ws .1) e made))))))))))))))))))
 
-pub thin-does : (c : Answer) (w : Builder) (after : Storage) (s : State) (k : Call) → DoesThin c w after s k → Does (called .make c w) after (step s k)
-thin-does c w after s k e = (λ i. called .make (e .0 i) (e .1 i), e .2, e .3)
+pub thin-does : (c : Answer) (w : Builder) (ms : List ℕ) (after : Storage) (s : State) (k : Call) → DoesThin c w ms after s k → Does (called .make c w) ms after (step s k)
+thin-does c w ms after s k e = (λ i. called .make (e .0 i) (e .1 i), e .2, e .3, e .4)
 
-pub thin-finishes : (c : FinishAnswer) (w : Builder) (after : Storage) (out : List ℕ) (s : State) (k : Call) → FinishesThin c w after out s k → Finishes (finishCalled .make c w) after out (step s k)
-thin-finishes c w after out s k e = (λ i. finishCalled .make (e .0 i) (e .1 i), e .2, e .3, e .4, e .5)
+pub thin-finishes : (c : FinishAnswer) (w : Builder) (ms : List ℕ) (after : Storage) (out : List ℕ) (s : State) (k : Call) → FinishesThin c w ms after out s k → Finishes (finishCalled .make c w) ms after out (step s k)
+thin-finishes c w ms after out s k e = (λ i. finishCalled .make (e .0 i) (e .1 i), e .2, e .3, e .4, e .5, e .6)

@@ -15,10 +15,10 @@ use Rattle.builder.specs.Calls.{bytesWritten, finishNumber, state, Chain, aCall
 use Rattle.builder_mut.specs.Calls.{DoesThin, FinishesThin}
 use Rattle.builder_mut.proofs.BridgeLaws.{thin-does, thin-finishes}
 
-module _ {s u : State} {b : Builder} {after : Storage} {cs : List Call} {d : List ℕ} where
-  pub thin-call : {c : Call} {a : Answer} → isFinish c ≡ false → DoesThin a b after s c → Chain (state b after) cs u d → Chain s (c ∷ cs) u d
-  thin-call {c} {a} f h m = aCall f (thin-does a b after s c h) m
+module _ {s u : State} {b : Builder} {ms : List ℕ} {after : Storage} {cs : List Call} {d : List ℕ} where
+  pub thin-call : {c : Call} {a : Answer} → isFinish c ≡ false → DoesThin a b ms after s c → Chain (state b ms after) cs u d → Chain s (c ∷ cs) u d
+  thin-call {c} {a} f h m = aCall f (thin-does a b ms after s c h) m
 
-  pub thin-finish : {out left : List ℕ} {a : FinishAnswer} → FinishesThin a b after left s (finish out) → Chain (state b after) cs u d
+  pub thin-finish : {out left : List ℕ} {a : FinishAnswer} → FinishesThin a b ms after left s (finish out) → Chain (state b ms after) cs u d
       → Chain s (finish out ∷ cs) u (cond (eqb (finishNumber a) 0) (take (bytesWritten a) left) d)
-  thin-finish {out} {left} {a} h m = aFinish (thin-finishes a b after left s (finish out) h) m
+  thin-finish {out} {left} {a} h m = aFinish (thin-finishes a b ms after left s (finish out) h) m

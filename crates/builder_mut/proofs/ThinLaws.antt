@@ -233,11 +233,11 @@ module _ (R : Reply) {M : Type 1} (𝓤 : URA M) (H : Heap 𝓤) (A : Atoms 𝓤
       move ! (5 ∷ []) $ frees-ps ! E ps bs $ move ! (8 ∷ 9 ∷ []) $ free1 ! $ move ! (6 ∷ 7 ∷ []) $ free1 ! $ move ! (5 ∷ []) $ frees-ts ! ps ts $
       by ! (ends r _ is))))))))))))
 
-pub does-thin : (r : Called) (after : Storage) (s : State) (k : Call) → Does r after (step s k) → DoesThin (r .answer) (r .builder) after s k
-does-thin r after s k e = (ap (λ (c : Called). c .answer) (e .0), ap (λ (c : Called). c .builder) (e .0), e .1, e .2)
+pub does-thin : (r : Called) (ms : List ℕ) (after : Storage) (s : State) (k : Call) → Does r ms after (step s k) → DoesThin (r .answer) (r .builder) ms after s k
+does-thin r ms after s k e = (ap (λ (c : Called). c .answer) (e .0), ap (λ (c : Called). c .builder) (e .0), e .1, e .2, e .3)
 
-pub finishes-thin : (r : FinishCalled) (after : Storage) (out : List ℕ) (s : State) (k : Call) → Finishes r after out (step s k) → FinishesThin (r .answer) (r .builder) after out s k
-finishes-thin r after out s k e = (ap (λ (c : FinishCalled). c .answer) (e .0), ap (λ (c : FinishCalled). c .builder) (e .0), e .1, e .2, e .3, e .4)
+pub finishes-thin : (r : FinishCalled) (ms : List ℕ) (after : Storage) (out : List ℕ) (s : State) (k : Call) → Finishes r ms after out (step s k) → FinishesThin (r .answer) (r .builder) ms after out s k
+finishes-thin r ms after out s k e = (ap (λ (c : FinishCalled). c .answer) (e .0), ap (λ (c : FinishCalled). c .builder) (e .0), e .1, e .2, e .3, e .4, e .5)
 
 -- ---- the machine values of the arguments, written out
 module _ {M : Type 1} (𝓤 : URA M) (H : Heap 𝓤) (A : Atoms 𝓤) (S : Signature) (c : Spec 𝓤 S) (run : Fun 𝓤) (y : tripleOf 𝓤 H A S c .Ghost) (sp : Spells (typesAt (S .params) (y .0 .0))) where

@@ -1,11 +1,11 @@
--- A thin call's answer, and the record behind its reference and the storage at exit; and the call that lends it a local.
+-- A thin call's answer, and the record behind its reference, the table of marks and the storage at exit; and the call that lends it a local.
 use mathlib.Core.Path.{_≡_}
 use mathlib.Core.Bool.{Bool, true, false}
 use mathlib.Core.List.{List}
 use Prim.Native.Nat.{ℕ}
 use Rattle.metadata.specs.Names.{Name}
 use Rattle.semantics.specs.declared.Builder.{Builder}
-use Rattle.semantics.specs.Record.{Storage, State, Call, register, append, openIn, close, rollBack, uniqueness, finish, fixed, civil, packed, bytes, uuid}
+use Rattle.semantics.specs.Record.{Storage, State, Call, register, append, openIn, close, rollBack, uniqueness, setMark, returnTo, finish, fixed, civil, packed, bytes, uuid}
 use Rattle.semantics.specs.Step.{Outcome, step}
 use Rattle.refusals.specs.Decide.{nameOf}
 use Rattle.builder.specs.declared.Answer.{Answer}
@@ -17,16 +17,18 @@ use Rattle.builder_mut.specs.declared.Call.{Call as Asked}
 use Rattle.builder_mut.specs.declared.Call.the-variants as asked
 use Rattle.builder_mut.specs.declared.LendCalled.{LendCalled}
 
--- its answer, the record at exit and the storage at exit are those of the step from the state at entry, and so is the answer's
--- number
-abbrev pub DoesThin : Answer → Builder → Storage → State → Call → Type 0
-DoesThin r b after s k = (r ≡ answerOf (step s k .number)) × (b ≡ step s k .state .builder) × (after ≡ step s k .state .storage) × (answerNumber r ≡ step s k .number)
+-- its answer, and the record, the table of marks and the storage at exit, are those of the step from the state at entry, and so is the
+-- answer's number
+abbrev pub DoesThin : Answer → Builder → List ℕ → Storage → State → Call → Type 0
+DoesThin r b ms after s k =
+    (r ≡ answerOf (step s k .number)) × (b ≡ step s k .state .builder) × (after ≡ step s k .state .storage) × (ms ≡ step s k .state .marks)
+    × (answerNumber r ≡ step s k .number)
 
 -- finish: its output at exit too, and the answer's bytes
-abbrev pub FinishesThin : FinishAnswer → Builder → Storage → List ℕ → State → Call → Type 0
-FinishesThin r b after out s k =
-    (r ≡ finishAnswer (step s k .number) (step s k .written)) × (b ≡ step s k .state .builder) × (after ≡ step s k .state .storage) × (out ≡ step s k .output)
-    × (finishNumber r ≡ step s k .number) × (bytesWritten r ≡ step s k .written)
+abbrev pub FinishesThin : FinishAnswer → Builder → List ℕ → Storage → List ℕ → State → Call → Type 0
+FinishesThin r b ms after out s k =
+    (r ≡ finishAnswer (step s k .number) (step s k .written)) × (b ≡ step s k .state .builder) × (after ≡ step s k .state .storage)
+    × (ms ≡ step s k .state .marks) × (out ≡ step s k .output) × (finishNumber r ≡ step s k .number) × (bytesWritten r ≡ step s k .written)
 
 -- ---- `lend`
 
@@ -44,6 +46,8 @@ callOf (asked.WithValidateUniqueFields u) named name bs id out = uniqueness u
 callOf asked.Finish named name bs id out = finish out
 callOf (asked.AppendCivil x) named name bs id out = append (nameOf named name) (civil x)
 callOf (asked.AppendPacked scale) named name bs id out = append (nameOf named name) (packed scale bs)
+callOf asked.Mark named name bs id out = setMark
+callOf (asked.ReturnTo j) named name bs id out = returnTo j
 
 -- the output then: finish's is the step's, any other call leaves it as it was
 abbrev pub outputAfter : Call → List ℕ → List ℕ → List ℕ
@@ -53,15 +57,17 @@ outputAfter (openIn nm k) was out = was
 outputAfter close was out = was
 outputAfter rollBack was out = was
 outputAfter (uniqueness u) was out = was
+outputAfter setMark was out = was
+outputAfter (returnTo j) was out = was
 outputAfter (finish o) was out = out
 
 -- the outcome of a step that is lent an output
 abbrev pub lentStep : State → Call → List ℕ → Outcome
 lentStep s k was = record { number = step s k .number; state = step s k .state; output = outputAfter k was (step s k .output); written = step s k .written }
 
--- what it gives back, with the storage and the output then
-abbrev pub outcomeOf : LendCalled → Storage → List ℕ → Outcome
-outcomeOf r after out = record { number = r .number; state = state (r .builder) after; output = out; written = r .written }
+-- what it gives back, with the table of marks, the storage and the output then
+abbrev pub outcomeOf : LendCalled → List ℕ → Storage → List ℕ → Outcome
+outcomeOf r ms after out = record { number = r .number; state = state (r .builder) ms after; output = out; written = r .written }
 
 -- ---- For the code.
 

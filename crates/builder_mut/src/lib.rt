@@ -33,8 +33,10 @@ pub use thin::append_uuid;
 pub use thin::append_value;
 pub use thin::close;
 pub use thin::finish;
+pub use thin::mark;
 pub use thin::new_list;
 pub use thin::new_object;
+pub use thin::return_to;
 pub use thin::rollback;
 pub use thin::with_validate_unique_fields;
 use value::variant::Variant;
@@ -54,6 +56,8 @@ pub enum Call {
     Finish,
     AppendCivil(Civil),
     AppendPacked(u8),
+    Mark,
+    ReturnTo(usize),
 }
 
 // A call's number, 0 where it was carried out; the bytes that a finish wrote; the builder then.

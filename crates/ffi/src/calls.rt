@@ -26,6 +26,7 @@ use crate::words::chain_of;
 use crate::words::counts_of;
 use crate::words::elements_of;
 use crate::words::inner_of;
+use crate::words::marks_hold;
 use crate::words::moved;
 use crate::words::parent_of;
 use crate::words::put_container;
@@ -38,12 +39,18 @@ use actions::child;
 use actions::close_over;
 use actions::enter_over;
 use actions::finish_over;
+use actions::mark_over;
 use actions::note;
 use actions::packed_own;
+use actions::return_over;
 use actions::rollback_over;
 use actions::unique_over;
+use marks::NUMBERS;
+use marks::mark_at;
+use marks::put_mark;
 use refusals::make_number;
 use refusals::row;
+use refusals::saturating_sub;
 use semantics::View;
 use semantics::fresh_counts;
 use value::scalar::bytes_size;
@@ -57,7 +64,7 @@ use value::variant::out_of_range;
 ghost use mathlib.Core.Path.{_≡_};
 ghost use mathlib.Core.Bool.{false, true};
 ghost use lib.ListN.{length};
-ghost use Rattle.semantics.specs.Record.{Scalars, append as appendOf, close as closeOf, fixed, openIn, packed, register as registerOf, rollBack, uniqueness, uuid as uuidOf, storageOf};
+ghost use Rattle.semantics.specs.Record.{Scalars, append as appendOf, close as closeOf, fixed, openIn, packed, register as registerOf, returnTo, rollBack, setMark, storageOf, uniqueness, uuid as uuidOf};
 ghost use Rattle.refusals.specs.Decide.{nameOf};
 ghost use Rattle.actions.specs.Actions.{StoredAs};
 ghost use Rattle.ffi.specs.Dates.{civilBy, dateOf};
@@ -83,22 +90,26 @@ pub extern "C" fn variant_new(words: &mut [usize; WORDS], unique: bool, floor: u
 #[no_mangle]
 pub extern "C" fn variant_add_field_name(
     words: &mut [usize; WORDS],
+    marks: &[usize; NUMBERS],
     value: &[u8],
     text: &mut [u8],
     ends: &mut [usize],
     entries: &[usize],
+    undo: &[usize],
     name: &[u8],
 ) -> u8
-    ensures { λ r. ⌜ DoesWords r (now (words .entry)) (now (words .exit))
-        (storageOf (now (value .entry)) (now (text .entry)) (now (ends .entry)) (now (entries .entry)))
-        (storageOf (now (value .entry)) (now (text .exit)) (now (ends .exit)) (now (entries .entry))) (registerOf (now (name .entry))) ⌝ }
+    ensures { λ r. ⌜ DoesWords r (now (words .entry)) (now (words .exit)) (now (marks .entry)) (now (marks .entry))
+        (storageOf (now (value .entry)) (now (text .entry)) (now (ends .entry)) (now (entries .entry)) (now (undo .entry)))
+        (storageOf (now (value .entry)) (now (text .exit)) (now (ends .exit)) (now (entries .entry)) (now (undo .entry))) (registerOf (now (name .entry))) ⌝ }
 {
     let e = enter(
         words,
+        marks,
         value,
         text,
         ends,
         entries,
+        undo,
         true,
         name,
         false,
@@ -113,17 +124,20 @@ pub extern "C" fn variant_add_field_name(
 #[no_mangle]
 pub extern "C" fn variant_close(
     words: &mut [usize; WORDS],
+    marks: &[usize; NUMBERS],
     value: &mut [u8],
     text: &[u8],
     ends: &[usize],
     entries: &mut [usize],
+    undo: &[usize],
 ) -> u8
-    ensures { λ r. ⌜ DoesWords r (now (words .entry)) (now (words .exit))
-        (storageOf (now (value .entry)) (now (text .entry)) (now (ends .entry)) (now (entries .entry)))
-        (storageOf (now (value .exit)) (now (text .entry)) (now (ends .entry)) (now (entries .exit))) closeOf ⌝ }
+    ensures { λ r. ⌜ DoesWords r (now (words .entry)) (now (words .exit)) (now (marks .entry)) (now (marks .entry))
+        (storageOf (now (value .entry)) (now (text .entry)) (now (ends .entry)) (now (entries .entry)) (now (undo .entry)))
+        (storageOf (now (value .exit)) (now (text .entry)) (now (ends .entry)) (now (entries .exit)) (now (undo .entry)))
+        closeOf ⌝ }
 {
-    let v = view_of(words);
-    let r = close_over(v, value, text, ends, entries);
+    let v = view_of(words, marks);
+    let r = close_over(v, value, text, ends, entries, undo);
     moved(words, r)
 }
 
@@ -131,17 +145,20 @@ pub extern "C" fn variant_close(
 #[no_mangle]
 pub extern "C" fn variant_rollback(
     words: &mut [usize; WORDS],
+    marks: &[usize; NUMBERS],
     value: &[u8],
     text: &[u8],
     ends: &[usize],
     entries: &mut [usize],
+    undo: &[usize],
 ) -> u8
-    ensures { λ r. ⌜ DoesWords r (now (words .entry)) (now (words .exit))
-        (storageOf (now (value .entry)) (now (text .entry)) (now (ends .entry)) (now (entries .entry)))
-        (storageOf (now (value .entry)) (now (text .entry)) (now (ends .entry)) (now (entries .exit))) rollBack ⌝ }
+    ensures { λ r. ⌜ DoesWords r (now (words .entry)) (now (words .exit)) (now (marks .entry)) (now (marks .entry))
+        (storageOf (now (value .entry)) (now (text .entry)) (now (ends .entry)) (now (entries .entry)) (now (undo .entry)))
+        (storageOf (now (value .entry)) (now (text .entry)) (now (ends .entry)) (now (entries .exit)) (now (undo .entry)))
+        rollBack ⌝ }
 {
-    let v = view_of(words);
-    let r = rollback_over(v, value, text, ends, entries);
+    let v = view_of(words, marks);
+    let r = rollback_over(v, value, text, ends, entries, undo);
     moved(words, r)
 }
 
@@ -150,10 +167,12 @@ pub extern "C" fn variant_rollback(
 #[no_mangle]
 pub extern "C" fn variant_append_value(
     words: &mut [usize; WORDS],
+    marks: &[usize; NUMBERS],
     value: &mut [u8],
     text: &mut [u8],
     ends: &mut [usize],
     entries: &mut [usize],
+    undo: &mut [usize],
     named: bool,
     name: &[u8],
     code: u8,
@@ -161,14 +180,26 @@ pub extern "C" fn variant_append_value(
     low: u64,
     scale: u8,
 ) -> u8
-    ensures { λ r. ⌜ DoesWords r (now (words .entry)) (now (words .exit))
-        (storageOf (now (value .entry)) (now (text .entry)) (now (ends .entry)) (now (entries .entry)))
-        (storageOf (now (value .exit)) (now (text .exit)) (now (ends .exit)) (now (entries .exit)))
+    ensures { λ r. ⌜ DoesWords r (now (words .entry)) (now (words .exit)) (now (marks .entry)) (now (marks .entry))
+        (storageOf (now (value .entry)) (now (text .entry)) (now (ends .entry)) (now (entries .entry)) (now (undo .entry)))
+        (storageOf (now (value .exit)) (now (text .exit)) (now (ends .exit)) (now (entries .exit)) (now (undo .exit)))
         (appendOf (nameOf named (now (name .entry))) (fixed (variantOf code z low scale))) ⌝ }
 {
     let x = variant_of(code, z, low, scale);
     let n = row(out_of_range(x), 7, 0);
-    append_own(words, value, text, ends, entries, named, name, x, n)
+    append_own(
+        words,
+        marks,
+        value,
+        text,
+        ends,
+        entries,
+        undo,
+        named,
+        name,
+        x,
+        n,
+    )
 }
 
 // A date, or a date and a time of day in microseconds, by the code of the type that it is stored as: 11, a date; 12 and 13, a timestamp in
@@ -176,10 +207,12 @@ pub extern "C" fn variant_append_value(
 #[no_mangle]
 pub extern "C" fn variant_append_civil(
     words: &mut [usize; WORDS],
+    marks: &[usize; NUMBERS],
     value: &mut [u8],
     text: &mut [u8],
     ends: &mut [usize],
     entries: &mut [usize],
+    undo: &mut [usize],
     named: bool,
     name: &[u8],
     code: u8,
@@ -188,64 +221,94 @@ pub extern "C" fn variant_append_civil(
     day: i64,
     time: i64,
 ) -> u8
-    ensures { λ r. ⌜ DoesWords r (now (words .entry)) (now (words .exit))
-        (storageOf (now (value .entry)) (now (text .entry)) (now (ends .entry)) (now (entries .entry)))
-        (storageOf (now (value .exit)) (now (text .exit)) (now (ends .exit)) (now (entries .exit)))
+    ensures { λ r. ⌜ DoesWords r (now (words .entry)) (now (words .exit)) (now (marks .entry)) (now (marks .entry))
+        (storageOf (now (value .entry)) (now (text .entry)) (now (ends .entry)) (now (entries .entry)) (now (undo .entry)))
+        (storageOf (now (value .exit)) (now (text .exit)) (now (ends .exit)) (now (entries .exit)) (now (undo .exit)))
         (appendOf (nameOf named (now (name .entry))) (civilBy code (dateOf year month day) time)) ⌝ }
 {
     let s = civil_by(code, year, month, day, time);
     let x = s.variant;
-    append_own(words, value, text, ends, entries, named, name, x, s.number)
+    append_own(
+        words,
+        marks,
+        value,
+        text,
+        ends,
+        entries,
+        undo,
+        named,
+        name,
+        x,
+        s.number,
+    )
 }
 
 // Packed decimal, two digits a byte, and a scale: the smallest of the three decimals that holds the number.
 #[no_mangle]
 pub extern "C" fn variant_append_packed(
     words: &mut [usize; WORDS],
+    marks: &[usize; NUMBERS],
     value: &mut [u8],
     text: &mut [u8],
     ends: &mut [usize],
     entries: &mut [usize],
+    undo: &mut [usize],
     named: bool,
     name: &[u8],
     scale: u8,
     bytes: &[u8],
 ) -> u8
-    ensures { λ r. ⌜ DoesWords r (now (words .entry)) (now (words .exit))
-        (storageOf (now (value .entry)) (now (text .entry)) (now (ends .entry)) (now (entries .entry)))
-        (storageOf (now (value .exit)) (now (text .exit)) (now (ends .exit)) (now (entries .exit)))
+    ensures { λ r. ⌜ DoesWords r (now (words .entry)) (now (words .exit)) (now (marks .entry)) (now (marks .entry))
+        (storageOf (now (value .entry)) (now (text .entry)) (now (ends .entry)) (now (entries .entry)) (now (undo .entry)))
+        (storageOf (now (value .exit)) (now (text .exit)) (now (ends .exit)) (now (entries .exit)) (now (undo .exit)))
         (appendOf (nameOf named (now (name .entry))) (packed scale (now (bytes .entry)))) ⌝ }
 {
     let o = packed_own(bytes, scale);
     let x = o.variant;
-    append_own(words, value, text, ends, entries, named, name, x, o.number)
+    append_own(
+        words,
+        marks,
+        value,
+        text,
+        ends,
+        entries,
+        undo,
+        named,
+        name,
+        x,
+        o.number,
+    )
 }
 
 // A scalar that is stored as one of fixed size, with its own number, 0 where it has none.
 fn append_own(
     words: &mut [usize; WORDS],
+    marks: &[usize; NUMBERS],
     value: &mut [u8],
     text: &mut [u8],
     ends: &mut [usize],
     entries: &mut [usize],
+    undo: &mut [usize],
     named: bool,
     name: &[u8],
     x: Variant,
     own: u8,
 ) -> u8
-    ensures { λ r. ⌜ ((s : Scalars) → StoredAs s x own → DoesWords r (now (words .entry)) (now (words .exit))
-        (storageOf (now (value .entry)) (now (text .entry)) (now (ends .entry)) (now (entries .entry)))
-        (storageOf (now (value .exit)) (now (text .exit)) (now (ends .exit)) (now (entries .exit)))
+    ensures { λ r. ⌜ ((s : Scalars) → StoredAs s x own → DoesWords r (now (words .entry)) (now (words .exit)) (now (marks .entry)) (now (marks .entry))
+        (storageOf (now (value .entry)) (now (text .entry)) (now (ends .entry)) (now (entries .entry)) (now (undo .entry)))
+        (storageOf (now (value .exit)) (now (text .exit)) (now (ends .exit)) (now (entries .exit)) (now (undo .exit)))
         (appendOf (nameOf named (now (name .entry))) s)) ⌝ }
 {
     let c = counts_of(words);
     let size = variant_size(x);
     let e = enter(
         words,
+        marks,
         value,
         text,
         ends,
         entries,
+        undo,
         named,
         name,
         true,
@@ -256,7 +319,7 @@ fn append_own(
     if e.number != 0 {
         return e.number;
     }
-    note(e, entries);
+    note(e, entries, undo);
     write_variant(value, c.value, x);
     0
 }
@@ -265,18 +328,20 @@ fn append_own(
 #[no_mangle]
 pub extern "C" fn variant_append_bytes(
     words: &mut [usize; WORDS],
+    marks: &[usize; NUMBERS],
     value: &mut [u8],
     text: &mut [u8],
     ends: &mut [usize],
     entries: &mut [usize],
+    undo: &mut [usize],
     named: bool,
     name: &[u8],
     kind: u8,
     bytes: &[u8],
 ) -> u8
-    ensures { λ r. ⌜ DoesWords r (now (words .entry)) (now (words .exit))
-        (storageOf (now (value .entry)) (now (text .entry)) (now (ends .entry)) (now (entries .entry)))
-        (storageOf (now (value .exit)) (now (text .exit)) (now (ends .exit)) (now (entries .exit)))
+    ensures { λ r. ⌜ DoesWords r (now (words .entry)) (now (words .exit)) (now (marks .entry)) (now (marks .entry))
+        (storageOf (now (value .entry)) (now (text .entry)) (now (ends .entry)) (now (entries .entry)) (now (undo .entry)))
+        (storageOf (now (value .exit)) (now (text .exit)) (now (ends .exit)) (now (entries .exit)) (now (undo .exit)))
         (appendOf (nameOf named (now (name .entry))) (bytesBy kind (now (bytes .entry)))) ⌝ }
 {
     let c = counts_of(words);
@@ -285,10 +350,12 @@ pub extern "C" fn variant_append_bytes(
     let n = row(3 < kind, 7, row(ill_formed(k, bytes), 8, 0));
     let e = enter(
         words,
+        marks,
         value,
         text,
         ends,
         entries,
+        undo,
         named,
         name,
         true,
@@ -299,7 +366,7 @@ pub extern "C" fn variant_append_bytes(
     if e.number != 0 {
         return e.number;
     }
-    note(e, entries);
+    note(e, entries, undo);
     write_bytes(value, c.value, k, bytes);
     0
 }
@@ -307,17 +374,19 @@ pub extern "C" fn variant_append_bytes(
 #[no_mangle]
 pub extern "C" fn variant_append_uuid(
     words: &mut [usize; WORDS],
+    marks: &[usize; NUMBERS],
     value: &mut [u8],
     text: &mut [u8],
     ends: &mut [usize],
     entries: &mut [usize],
+    undo: &mut [usize],
     named: bool,
     name: &[u8],
     uuid: &[u8; 16],
 ) -> u8
-    ensures { λ r. ⌜ DoesWords r (now (words .entry)) (now (words .exit))
-        (storageOf (now (value .entry)) (now (text .entry)) (now (ends .entry)) (now (entries .entry)))
-        (storageOf (now (value .exit)) (now (text .exit)) (now (ends .exit)) (now (entries .exit)))
+    ensures { λ r. ⌜ DoesWords r (now (words .entry)) (now (words .exit)) (now (marks .entry)) (now (marks .entry))
+        (storageOf (now (value .entry)) (now (text .entry)) (now (ends .entry)) (now (entries .entry)) (now (undo .entry)))
+        (storageOf (now (value .exit)) (now (text .exit)) (now (ends .exit)) (now (entries .exit)) (now (undo .exit)))
         (appendOf (nameOf named (now (name .entry))) (uuidOf (now (uuid .entry)))) ⌝ }
 {
     sixteen(uuid);
@@ -325,10 +394,12 @@ pub extern "C" fn variant_append_uuid(
     let u = *uuid;
     let e = enter(
         words,
+        marks,
         value,
         text,
         ends,
         entries,
+        undo,
         named,
         name,
         true,
@@ -339,7 +410,7 @@ pub extern "C" fn variant_append_uuid(
     if e.number != 0 {
         return e.number;
     }
-    note(e, entries);
+    note(e, entries, undo);
     write_uuid(value, c.value, u);
     0
 }
@@ -347,61 +418,91 @@ pub extern "C" fn variant_append_uuid(
 #[no_mangle]
 pub extern "C" fn variant_new_list(
     words: &mut [usize; WORDS],
+    marks: &[usize; NUMBERS],
     value: &[u8],
     text: &mut [u8],
     ends: &mut [usize],
     entries: &mut [usize],
+    undo: &mut [usize],
     named: bool,
     name: &[u8],
 ) -> u8
-    ensures { λ r. ⌜ DoesWords r (now (words .entry)) (now (words .exit))
-        (storageOf (now (value .entry)) (now (text .entry)) (now (ends .entry)) (now (entries .entry)))
-        (storageOf (now (value .entry)) (now (text .exit)) (now (ends .exit)) (now (entries .exit)))
+    ensures { λ r. ⌜ DoesWords r (now (words .entry)) (now (words .exit)) (now (marks .entry)) (now (marks .entry))
+        (storageOf (now (value .entry)) (now (text .entry)) (now (ends .entry)) (now (entries .entry)) (now (undo .entry)))
+        (storageOf (now (value .entry)) (now (text .exit)) (now (ends .exit)) (now (entries .exit)) (now (undo .exit)))
         (openIn (nameOf named (now (name .entry))) false) ⌝ }
 {
-    new_container(words, value, text, ends, entries, named, name, false)
+    new_container(
+        words,
+        marks,
+        value,
+        text,
+        ends,
+        entries,
+        undo,
+        named,
+        name,
+        false,
+    )
 }
 
 #[no_mangle]
 pub extern "C" fn variant_new_object(
     words: &mut [usize; WORDS],
+    marks: &[usize; NUMBERS],
     value: &[u8],
     text: &mut [u8],
     ends: &mut [usize],
     entries: &mut [usize],
+    undo: &mut [usize],
     named: bool,
     name: &[u8],
 ) -> u8
-    ensures { λ r. ⌜ DoesWords r (now (words .entry)) (now (words .exit))
-        (storageOf (now (value .entry)) (now (text .entry)) (now (ends .entry)) (now (entries .entry)))
-        (storageOf (now (value .entry)) (now (text .exit)) (now (ends .exit)) (now (entries .exit)))
+    ensures { λ r. ⌜ DoesWords r (now (words .entry)) (now (words .exit)) (now (marks .entry)) (now (marks .entry))
+        (storageOf (now (value .entry)) (now (text .entry)) (now (ends .entry)) (now (entries .entry)) (now (undo .entry)))
+        (storageOf (now (value .entry)) (now (text .exit)) (now (ends .exit)) (now (entries .exit)) (now (undo .exit)))
         (openIn (nameOf named (now (name .entry))) true) ⌝ }
 {
-    new_container(words, value, text, ends, entries, named, name, true)
+    new_container(
+        words,
+        marks,
+        value,
+        text,
+        ends,
+        entries,
+        undo,
+        named,
+        name,
+        true,
+    )
 }
 
 fn new_container(
     words: &mut [usize; WORDS],
+    marks: &[usize; NUMBERS],
     value: &[u8],
     text: &mut [u8],
     ends: &mut [usize],
     entries: &mut [usize],
+    undo: &mut [usize],
     named: bool,
     name: &[u8],
     object: bool,
 ) -> u8
-    ensures { λ r. ⌜ DoesWords r (now (words .entry)) (now (words .exit))
-        (storageOf (now (value .entry)) (now (text .entry)) (now (ends .entry)) (now (entries .entry)))
-        (storageOf (now (value .entry)) (now (text .exit)) (now (ends .exit)) (now (entries .exit)))
+    ensures { λ r. ⌜ DoesWords r (now (words .entry)) (now (words .exit)) (now (marks .entry)) (now (marks .entry))
+        (storageOf (now (value .entry)) (now (text .entry)) (now (ends .entry)) (now (entries .entry)) (now (undo .entry)))
+        (storageOf (now (value .entry)) (now (text .exit)) (now (ends .exit)) (now (entries .exit)) (now (undo .exit)))
         (openIn (nameOf named (now (name .entry))) object) ⌝ }
 {
     let c = counts_of(words);
     let e = enter(
         words,
+        marks,
         value,
         text,
         ends,
         entries,
+        undo,
         named,
         name,
         true,
@@ -412,7 +513,7 @@ fn new_container(
     if e.number != 0 {
         return e.number;
     }
-    let p = note(e, entries);
+    let p = note(e, entries, undo);
     let k = child(c, e, p, object);
     put_container(words, c.depth, k);
     put_elements(words, c.depth + 1, 0);
@@ -423,18 +524,20 @@ fn new_container(
 #[no_mangle]
 pub extern "C" fn variant_with_validate_unique_fields(
     words: &mut [usize; WORDS],
+    marks: &[usize; NUMBERS],
     value: &[u8],
     text: &[u8],
     ends: &[usize],
     entries: &[usize],
+    undo: &[usize],
     unique: bool,
 ) -> u8
-    ensures { λ r. ⌜ DoesWords r (now (words .entry)) (now (words .exit))
-        (storageOf (now (value .entry)) (now (text .entry)) (now (ends .entry)) (now (entries .entry)))
-        (storageOf (now (value .entry)) (now (text .entry)) (now (ends .entry)) (now (entries .entry))) (uniqueness unique) ⌝ }
+    ensures { λ r. ⌜ DoesWords r (now (words .entry)) (now (words .exit)) (now (marks .entry)) (now (marks .entry))
+        (storageOf (now (value .entry)) (now (text .entry)) (now (ends .entry)) (now (entries .entry)) (now (undo .entry)))
+        (storageOf (now (value .entry)) (now (text .entry)) (now (ends .entry)) (now (entries .entry)) (now (undo .entry))) (uniqueness unique) ⌝ }
 {
-    let v = view_of(words);
-    let r = unique_over(v, value, text, ends, entries, unique);
+    let v = view_of(words, marks);
+    let r = unique_over(v, value, text, ends, entries, undo, unique);
     if r.number != 0 {
         return r.number;
     }
@@ -443,23 +546,85 @@ pub extern "C" fn variant_with_validate_unique_fields(
     0
 }
 
-// The dictionary at the start of `out`, its length in `written`, and the builder finished. A refused call leaves `written`.
+// A mark in the innermost container, one of up to 16, numbered from 1 as set.
 #[no_mangle]
-pub extern "C" fn variant_finish(
+pub extern "C" fn variant_mark(
     words: &mut [usize; WORDS],
+    marks: &mut [usize; NUMBERS],
     value: &[u8],
     text: &[u8],
     ends: &[usize],
     entries: &[usize],
+    undo: &[usize],
+) -> u8
+    ensures { λ r. ⌜ DoesWords r (now (words .entry)) (now (words .exit)) (now (marks .entry)) (now (marks .exit))
+        (storageOf (now (value .entry)) (now (text .entry)) (now (ends .entry)) (now (entries .entry)) (now (undo .entry)))
+        (storageOf (now (value .entry)) (now (text .entry)) (now (ends .entry)) (now (entries .entry)) (now (undo .entry))) setMark ⌝ }
+{
+    let v = view_of(words, marks);
+    let r = mark_over(v, value, text, ends, entries, undo);
+    if r.number != 0 {
+        return r.number;
+    }
+    let d = v.counts.depth - 1;
+    let k = r.container;
+    let m = r.mark;
+    put_container(words, d, k);
+    put_mark(marks, d, k.marks, m);
+    0
+}
+
+// The return to a mark of the innermost container: all is as it was then, and later marks are gone.
+#[no_mangle]
+pub extern "C" fn variant_return_to(
+    words: &mut [usize; WORDS],
+    marks: &[usize; NUMBERS],
+    value: &[u8],
+    text: &[u8],
+    ends: &[usize],
+    entries: &mut [usize],
+    undo: &[usize],
+    mark: usize,
+) -> u8
+    ensures { λ r. ⌜ DoesWords r (now (words .entry)) (now (words .exit)) (now (marks .entry)) (now (marks .entry))
+        (storageOf (now (value .entry)) (now (text .entry)) (now (ends .entry)) (now (entries .entry)) (now (undo .entry)))
+        (storageOf (now (value .entry)) (now (text .entry)) (now (ends .entry)) (now (entries .exit)) (now (undo .entry)))
+        (returnTo mark) ⌝ }
+{
+    let v = view_of(words, marks);
+    let d = saturating_sub(v.counts.depth, 1);
+    let p = mark_at(marks, d, mark);
+    let r = return_over(v, value, text, ends, entries, undo, mark, p);
+    if r.number != 0 {
+        return r.number;
+    }
+    let c = r.counts;
+    let k = r.container;
+    put_counts(words, c);
+    put_elements(words, c.depth, r.elements);
+    put_container(words, d, k);
+    0
+}
+
+// The dictionary at the start of `out`, its length in `written`, and the builder finished. A refused call leaves `written`.
+#[no_mangle]
+pub extern "C" fn variant_finish(
+    words: &mut [usize; WORDS],
+    marks: &[usize; NUMBERS],
+    value: &[u8],
+    text: &[u8],
+    ends: &[usize],
+    entries: &[usize],
+    undo: &[usize],
     out: &mut [u8],
     written: &mut usize,
 ) -> u8
-    ensures { λ r. ⌜ FinishesWords r (now (words .entry)) (now (words .exit))
-        (storageOf (now (value .entry)) (now (text .entry)) (now (ends .entry)) (now (entries .entry))) (now (out .entry)) (now (out .exit))
+    ensures { λ r. ⌜ FinishesWords r (now (words .entry)) (now (words .exit)) (now (marks .entry))
+        (storageOf (now (value .entry)) (now (text .entry)) (now (ends .entry)) (now (entries .entry)) (now (undo .entry))) (now (out .entry)) (now (out .exit))
         (now (written .entry)) (now (written .exit)) ⌝ }
 {
-    let v = view_of(words);
-    let r = finish_over(v, value, text, ends, entries, out);
+    let v = view_of(words, marks);
+    let r = finish_over(v, value, text, ends, entries, undo, out);
     let n = r.number;
     if n != 0 {
         return n;
@@ -474,10 +639,12 @@ pub extern "C" fn variant_finish(
 // innermost's elements are put.
 fn enter(
     words: &mut [usize; WORDS],
+    marks: &[usize; NUMBERS],
     value: &[u8],
     text: &mut [u8],
     ends: &mut [usize],
     entries: &[usize],
+    undo: &[usize],
     named: bool,
     name: &[u8],
     into: bool,
@@ -485,8 +652,8 @@ fn enter(
     own: u8,
     size: usize,
 ) -> Entered
-    ensures { λ r. ⌜ EntersWords (now (words .entry)) (now (words .exit))
-        (storageOf (now (value .entry)) (now (text .entry)) (now (ends .entry)) (now (entries .entry))) (nameOf named (now (name .entry)))
+    ensures { λ r. ⌜ EntersWords (now (words .entry)) (now (words .exit)) (now (marks .entry))
+        (storageOf (now (value .entry)) (now (text .entry)) (now (ends .entry)) (now (entries .entry)) (now (undo .entry))) (nameOf named (now (name .entry)))
         into opens own size r (now (text .exit)) (now (ends .exit)) ⌝ }
 {
     let c = counts_of(words);
@@ -498,7 +665,7 @@ fn enter(
         elements: elements_of(words, c.depth),
         parent: p,
         siblings: siblings_of(words, c.depth),
-        chain: chain_of(words, c.depth),
+        chain: chain_of(words, c.depth) & marks_hold(words, marks, c.depth),
     };
     let e = enter_over(
         v,
@@ -506,6 +673,7 @@ fn enter(
         text,
         ends,
         entries,
+        undo,
         named,
         name,
         into,

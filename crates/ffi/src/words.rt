@@ -1,21 +1,27 @@
 // The state words read and written, piece by piece.
 use crate::WORDS;
 use actions::Moved;
+use marks::NUMBERS;
+use marks::marks_fit;
 use metadata::from_parts;
 use metadata::metadata_size;
 use metadata::num_field_names;
 use refusals::saturating_sub;
 use semantics::Container;
 use semantics::Counts;
+use semantics::Mark;
 use semantics::ParentEntry;
 use semantics::View;
 use semantics::no_container;
 ghost use mathlib.Core.Path.{_≡_};
-ghost use Prim.Native.Nat.{_-_, _<_};
+ghost use mathlib.Core.Bool.{_&&_, true};
+ghost use mathlib.Core.List.{List};
+ghost use Prim.Native.Nat.{ℕ, _-_, _<_, _≤_};
+ghost use lib.Dec.{leb};
 ghost use lib.ListN.{length};
-ghost use Rattle.semantics.specs.Record.{chained, containerAt, elementsAt, innerElements, innermost, parentElements, parentOf, viewOf};
+ghost use Rattle.semantics.specs.Record.{chained, containerAt, elementsAt, innerElements, innermost, markNow, marksFit, marksHold, parentElements, parentOf, viewOf};
 ghost use Rattle.semantics.specs.Record.{encloses as enclosesOf, under as underOf};
-ghost use Rattle.ffi.specs.Words.{builderOf, containersOf, countsOf, elementsOf, Puts, PutsContainer, PutsCounts, PutsElements, flag as flagOf, idOf, offsetOf, parentEntryOf, tagOf, wordOf};
+ghost use Rattle.ffi.specs.Words.{builderOf, containerFrom, containersOf, containerWord, countsOf, elementsOf, Puts, PutsContainer, PutsCounts, PutsElements, flag as flagOf, idOf, offsetOf, parentEntryOf, tagOf, wordOf};
 
 // How many words there are.
 fn count(words: &[usize]) -> usize
@@ -24,9 +30,9 @@ fn count(words: &[usize]) -> usize
     words.len()
 }
 
-// That there are 648 is known of a slice of them.
+// That there are 777 is known of a slice of them.
 fn whole(words: &[usize; WORDS]) -> usize
-    ensures { λ r. ⌜ length (now (words .entry)) ≡ 648 ⌝ }
+    ensures { λ r. ⌜ length (now (words .entry)) ≡ 777 ⌝ }
 {
     count(words)
 }
@@ -85,6 +91,14 @@ fn offset_of(e: ParentEntry) -> usize
     }
 }
 
+// Where the words of the container at depth d start.
+fn place_of(d: usize) -> usize
+    requires { ⌜ d < 64 ⌝ }
+    ensures { λ r. ⌜ r ≡ containerWord d ⌝ }
+{
+    9 + 11 * d
+}
+
 pub(crate) fn put_counts(words: &mut [usize; WORDS], c: Counts)
     ensures { λ _. ⌜ PutsCounts (now (words .entry)) (now (words .exit)) c ⌝ }
 {
@@ -98,6 +112,7 @@ pub(crate) fn put_counts(words: &mut [usize; WORDS], c: Counts)
     words[5] = word(c.unique);
     words[6] = word(c.finished);
     words[7] = c.floor;
+    words[8] = c.undo;
 }
 
 pub(crate) fn put_container(words: &mut [usize; WORDS], d: usize, k: Container)
@@ -105,7 +120,7 @@ pub(crate) fn put_container(words: &mut [usize; WORDS], d: usize, k: Container)
     ensures { λ _. ⌜ PutsContainer (now (words .entry)) (now (words .exit)) d k ⌝ }
 {
     whole(words);
-    let p = 8 + 9 * d;
+    let p = place_of(d);
     let e = k.parent;
     words[p] = k.value;
     words[p + 1] = k.names;
@@ -116,6 +131,8 @@ pub(crate) fn put_container(words: &mut [usize; WORDS], d: usize, k: Container)
     words[p + 6] = offset_of(e);
     words[p + 7] = word(k.object);
     words[p + 8] = word(k.unique);
+    words[p + 9] = k.undo;
+    words[p + 10] = k.marks;
 }
 
 // The elements of the innermost of d containers.
@@ -129,7 +146,7 @@ pub(crate) fn put_elements(words: &mut [usize; WORDS], d: usize, n: usize)
     if 64 < d {
         return;
     }
-    words[584 + (d - 1)] = n;
+    words[713 + (d - 1)] = n;
 }
 
 pub(crate) fn counts_of(words: &[usize; WORDS]) -> Counts
@@ -144,6 +161,7 @@ pub(crate) fn counts_of(words: &[usize; WORDS]) -> Counts
         unique: flag(words[5]),
         finished: flag(words[6]),
         floor: words[7],
+        undo: words[8],
     }
 }
 
@@ -153,7 +171,7 @@ fn container_at(words: &[usize; WORDS], d: usize) -> Container
     if 64 <= d {
         return no_container();
     }
-    let p = 8 + 9 * d;
+    let p = place_of(d);
     let e = parent_entry(words[p + 4], words[p + 5], words[p + 6]);
     Container {
         value: words[p],
@@ -163,12 +181,14 @@ fn container_at(words: &[usize; WORDS], d: usize) -> Container
         parent: e,
         object: flag(words[p + 7]),
         unique: flag(words[p + 8]),
+        undo: words[p + 9],
+        marks: words[p + 10],
     }
 }
 
-// What a call sees of the builder that the words mean.
-pub(crate) fn view_of(words: &[usize; WORDS]) -> View
-    ensures { λ r. ⌜ r ≡ viewOf (builderOf (now (words .entry))) ⌝ }
+// What a call sees of the builder that the words mean, and of the table of marks.
+pub(crate) fn view_of(words: &[usize; WORDS], marks: &[usize; NUMBERS]) -> View
+    ensures { λ r. ⌜ r ≡ viewOf (builderOf (now (words .entry))) (now (marks .entry)) ⌝ }
 {
     let c = counts_of(words);
     let k = inner_of(words, c.depth);
@@ -179,7 +199,7 @@ pub(crate) fn view_of(words: &[usize; WORDS]) -> View
         elements: elements_of(words, c.depth),
         parent: p,
         siblings: siblings_of(words, c.depth),
-        chain: chain_of(words, c.depth),
+        chain: chain_of(words, c.depth) & marks_hold(words, marks, c.depth),
     }
 }
 
@@ -208,7 +228,7 @@ fn elements_at(words: &[usize; WORDS], d: usize) -> usize
     if 64 <= d {
         return 0;
     }
-    words[584 + d]
+    words[713 + d]
 }
 
 pub(crate) fn elements_of(words: &[usize; WORDS], d: usize) -> usize
@@ -256,24 +276,105 @@ fn encloses(words: &[usize; WORDS], i: usize) -> bool
     ensures { λ r. ⌜ r ≡ enclosesOf (containerAt (containersOf (now (words .entry))) (i - 1)) (elementsAt (elementsOf (now (words .entry))) (i - 1))
         (containerAt (containersOf (now (words .entry))) i) ⌝ }
 {
-    let p = 8 + 9 * (i - 1);
-    let q = 8 + 9 * i;
+    let p = place_of(i - 1);
+    let q = place_of(i);
     let n = elements_at(words, i - 1);
     let above = saturating_sub(n, saturating_sub(words[q], words[p]));
-    under(words, i) & (flag(words[p + 7]) | (above <= 1))
+    under(words, p, q) & (flag(words[p + 7]) | (above <= 1))
 }
 
-// Do the starting marks of the container before depth i lie at or below those of the one there?
-fn under(words: &[usize; WORDS], i: usize) -> bool
-    requires { ⌜ 0 < i ⌝ }
-    requires { ⌜ i < 64 ⌝ }
-    ensures { λ r. ⌜ r ≡ underOf (containerAt (containersOf (now (words .entry))) (i - 1)) (containerAt (containersOf (now (words .entry))) i) ⌝ }
+// Do the starting marks of the container whose words start at p lie at or below those of the one at q?
+fn under(words: &[usize; WORDS], p: usize, q: usize) -> bool
+    requires { ⌜ p ≤ 702 ⌝ }
+    requires { ⌜ q ≤ 702 ⌝ }
+    ensures { λ r. ⌜ r ≡ underOf (containerFrom (now (words .entry)) p) (containerFrom (now (words .entry)) q) ⌝ }
 {
-    let p = 8 + 9 * (i - 1);
-    let q = 8 + 9 * i;
+    let entries = (words[p + 3] <= words[q + 3]) & (words[p + 9] <= words[q + 9]);
     (words[p] <= words[q])
-        & ((words[p + 1] <= words[q + 1])
-            & ((words[p + 2] <= words[q + 2]) & (words[p + 3] <= words[q + 3])))
+        & ((words[p + 1] <= words[q + 1]) & ((words[p + 2] <= words[q + 2]) & entries))
+}
+
+// Are at most 64 open, and are the marks in each at most 16 and in order? Where none is set there is nothing more to see.
+pub(crate) fn marks_hold(words: &[usize; WORDS], marks: &[usize; NUMBERS], d: usize) -> bool
+    ensures { λ r. ⌜ r ≡ (leb d 64 && marksHold (containersOf (now (words .entry))) (elementsOf (now (words .entry))) (now (marks .entry))
+        (countsOf (now (words .entry))) d) ⌝ }
+{
+    if unmarked(words, d) {
+        return true;
+    }
+    each_holds(words, marks, d)
+}
+
+// Are at most 64 open, and is no mark set in any of them?
+fn unmarked(words: &[usize; WORDS], d: usize) -> bool
+    ensures { λ r. ⌜ (r ≡ true → (ms : List ℕ) → (leb d 64 && marksHold (containersOf (now (words .entry))) (elementsOf (now (words .entry))) ms
+        (countsOf (now (words .entry))) d) ≡ true) ⌝ }
+{
+    if 64 < d {
+        return false;
+    }
+    let mut none = true;
+    let mut i = d;
+    while 0 < i {
+        i -= 1;
+        none = none & (marks_in(words, i) == 0);
+    }
+    none
+}
+
+// How many are set in the container at depth i.
+fn marks_in(words: &[usize; WORDS], i: usize) -> usize
+    requires { ⌜ i < 64 ⌝ }
+    ensures { λ r. ⌜ r ≡ containerAt (containersOf (now (words .entry))) i .marks ⌝ }
+{
+    let p = 9 + 11 * i;
+    words[p + 10]
+}
+
+// The same, container by container.
+fn each_holds(words: &[usize; WORDS], marks: &[usize; NUMBERS], d: usize) -> bool
+    ensures { λ r. ⌜ r ≡ (leb d 64 && marksHold (containersOf (now (words .entry))) (elementsOf (now (words .entry))) (now (marks .entry))
+        (countsOf (now (words .entry))) d) ⌝ }
+{
+    if 64 < d {
+        return false;
+    }
+    let mut ok = true;
+    let mut i = d;
+    while 0 < i {
+        let fit = marks_at(words, marks, i - 1);
+        i -= 1;
+        ok = ok & fit;
+    }
+    ok
+}
+
+// Those in the container at depth i.
+fn marks_at(words: &[usize; WORDS], marks: &[usize; NUMBERS], i: usize) -> bool
+    requires { ⌜ i < 64 ⌝ }
+    ensures { λ r. ⌜ r ≡ marksFit (now (marks .entry)) i (containerAt (containersOf (now (words .entry))) i) (markNow (countsOf (now (words .entry)))
+        (elementsAt (elementsOf (now (words .entry))) i) (containerAt (containersOf (now (words .entry))) i .unique)) ⌝ }
+{
+    let c = counts_of(words);
+    let k = container_at(words, i);
+    let m = mark_now(c, elements_at(words, i), k.unique);
+    marks_fit(marks, i, k, m)
+}
+
+// What a mark would be now in a container with n elements.
+fn mark_now(c: Counts, n: usize, unique: bool) -> Mark
+    ensures { λ r. ⌜ r ≡ markNow c n unique ⌝ }
+{
+    let m = c.dictionary;
+    Mark {
+        value: c.value,
+        names: num_field_names(m),
+        text: metadata_size(m),
+        entries: c.entries,
+        undo: c.undo,
+        count: n,
+        unique: unique,
+    }
 }
 
 // A piece's counts and elements put back where its number is 0, and its number.

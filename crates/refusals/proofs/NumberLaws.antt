@@ -1,5 +1,5 @@
 -- A call's number, from what the functions that it rests on answer.
-use mathlib.Core.Path.{_≡_, refl, sym, _∙_}
+use mathlib.Core.Path.{_≡_, refl, sym, _∙_, ap}
 use mathlib.Core.Bool.{Bool, true, false, cond, not, _&&_, _||_, or-false}
 use Prim.Native.Nat.{ℕ, _≤_}
 use mathlib.Core.List.{List}
@@ -13,12 +13,12 @@ use Rattle.container.specs.Entries.{Searches, roomFor}
 use Rattle.measure.specs.Measure.{wholeValues}
 use Rattle.semantics.specs.declared.ParentEntry.the-variants.{New, Replaced}
 use Rattle.semantics.specs.declared.View.{View}
-use Rattle.semantics.specs.Record.{Storage, close, rollBack, uniqueness, isOpen, inObject, inList, innerSize, innerData, parentSize}
+use Rattle.semantics.specs.Record.{Storage, close, rollBack, uniqueness, setMark, returnTo, isOpen, inObject, inList, innerSize, innerData, parentSize}
 use Rattle.semantics.specs.Damage.{badFloor, fallenEnds, misplacedInner, misplacedParent, uncounted, damagedParent, misread}
-use Rattle.semantics.specs.Table.{rows, numberOf}
+use Rattle.semantics.specs.Table.{rows, noMarkFree, notSet, numberOf}
 use Rattle.refusals.specs.declared.numbers.Parent.{Parent}
 use Rattle.refusals.specs.Decide.{ClosesBy, ParentOf, Undoes, brokenOf, closeBy, finishBy}
-use Rattle.refusals.proofs.ViewLaws.{both}
+use Rattle.semantics.proofs.ViewLaws.{both}
 pub use Rattle.refusals.proofs.ViewLaws.{broken-number, broken-close, damaged-none, entries-within, inner-within, ends-read, range-within, found-before, none-before}
 
 -- ---- a roll back's parent
@@ -33,24 +33,31 @@ module _ (v : View) (l : Storage) (h : v .inner .entries ≤ roomFor (length (l 
   unfolding misplacedParent
   parent-new e q = record { damaged = rw (e, q .misplacedAny, range-within _ _ _ h, none-before (l .entries) (v .parent .entries) (v .inner .entries)) (go (v .parent .object) _ _ _); place = rw e }
     where
-      go : (o m : Bool) (n k : ℕ) → ((o && (m || eqb n 0)) || (not o && eqb k 0)) ≡ ((o && m) || eqb (cond o n k) 0)
-      go true m n k = or-false (m || eqb n 0)
-      go false m n k = refl
+      go : (o m : Bool) (n k : ℕ) → ((o && (m || eqb n 0)) || (not o && eqb k 0)) ≡ ((o && m) || (eqb (cond o n k) 0 || false))
+      go true m n k = or-false (m || eqb n 0) ∙ sym (ap (λ t. m || t) (or-false (eqb n 0)))
+      go false m n k = sym (or-false (eqb k 0))
 
-  -- of a child that replaced another: the parent is an object, has an entry of its id, and enough data
+  -- of a child that replaced another: the parent is an object, has an entry of its id, enough data and, under a mark, fewer undo records
   pub parent-replaced : (id offset : ℕ) → v .inner .parent ≡ Replaced id offset
       → Searches (l .entries) (v .parent .entries) (v .inner .entries) true (fieldNames (v .counts .dictionary)) (parentSize v) id s
-      → ParentOf v l (record { place = s .place; damaged = not (v .parent .object) || (s .misplaced || (not (ltb (s .place) (v .inner .entries)) || ltb (parentSize v) offset)) })
+      → ParentOf v l
+      (record {
+        place = s .place;
+        damaged =
+            not (v .parent .object)
+            || (s .misplaced
+            || ((not (ltb (s .place) (v .inner .entries)) || ltb (parentSize v) offset) || (ltb 0 (v .parent .marks) && eqb (v .inner .undo) (v .parent .undo))));
+      })
   unfolding misplacedParent
   parent-replaced id offset e q =
       record {
-        damaged = rw (e, q .misplacedAny, q .placeFirst, range-within _ _ _ h, found-before (l .entries) (v .parent .entries) (v .inner .entries) id) (go (v .parent .object) _ _);
+        damaged = rw (e, q .misplacedAny, q .placeFirst, range-within _ _ _ h, found-before (l .entries) (v .parent .entries) (v .inner .entries) id) (go (v .parent .object) _ _ _);
         place = rw (e, q .placeFirst, range-within _ _ _ h);
       }
     where
-      go : (o m r : Bool) → (not o || (m || r)) ≡ ((o && m) || (not o || r))
-      go true m r = refl
-      go false m r = refl
+      go : (o m r u : Bool) → (not o || (m || (r || u))) ≡ ((o && m) || ((not o || r) || u))
+      go true m r u = refl
+      go false m r u = refl
 
 -- ---- the rows of a roll back, and its answer
 module _ (v : View) (l : Storage) (p : Parent) (n : ℕ) (unbroken : brokenOf v l ≡ false) (parent : ParentOf v l p)
@@ -136,3 +143,17 @@ module _ (v : View) (l : Storage) (out : List ℕ) {n : ℕ} (unbroken : brokenO
 pub unique-rows : (v : View) (l : Storage) (u : Bool) → cond (brokenOf v l) 1 (cond (v .counts .finished) 2 (cond (not (inObject v)) 3 0)) ≡ numberOf v l (uniqueness u)
 unfolding first numberOf
 unique-rows v l u = rw (or-false (badFloor v))
+
+-- ---- the rows of a mark to set, and of a return
+
+-- what the code answers
+pub mark-rows : (v : View) (l : Storage) → cond (brokenOf v l) 1 (cond (v .counts .finished) 2 (cond (noMarkFree v) 22 0)) ≡ numberOf v l setMark
+unfolding first numberOf
+mark-rows v l = rw (or-false (badFloor v))
+
+-- what it answers after `broken`
+pub return-rows : (v : View) (l : Storage) (j : ℕ) (s : Search) → brokenOf v l ≡ false
+    → Searches (l .entries) (v .inner .entries) (v .counts .entries) true (fieldNames (v .counts .dictionary)) (innerSize v) 0 s
+    → cond (inObject v && s .misplaced) 1 (cond (v .counts .finished) 2 (cond (notSet v j) 22 0)) ≡ numberOf v l (returnTo j)
+unfolding first numberOf misplacedInner
+return-rows v l j s e q = rw (damaged-none v l (misplacedInner v l) e, q .misplacedAny, range-within _ _ _ (entries-within v l e))

@@ -19,30 +19,32 @@ use Rattle.semantics.specs.Table.{frontRows, backRows, appendRows, numberOf, ba
 use Rattle.refusals.specs.declared.Field.{Field}
 use Rattle.refusals.specs.declared.Decided.{Decided}
 use Rattle.refusals.specs.declared.lookup.Named.{Named}
-use Rattle.refusals.specs.Decide.{nameOf, liveInto, noField, Decides, brokenOf, misnamedBy, misreadInto, decidedOf, Sees, fullBy, rowsBy, enterBy, enterRows, lateRows}
-use Rattle.refusals.proofs.ViewLaws.{both, neither, past, undamaged-unbroken}
+use Rattle.refusals.specs.Decide.{nameOf, liveInto, noField, Decides, brokenOf, misnamedBy, misreadInto, decidedOf, Sees, fullBy, unkeptBy, rowsBy, enterBy, enterRows, lateRows}
+use Rattle.refusals.proofs.ViewLaws.{neither, past, undamaged-unbroken}
+use Rattle.semantics.proofs.ViewLaws.{both}
 pub use Rattle.refusals.proofs.ViewLaws.{broken-none, damaged-broken}
 
 -- ---- no test holds
 
 -- the tests, seen at once
-pub rows-none : (number own : ℕ) (finished wrong second taken deep full fit : Bool)
-    → ((eqb number 0 && eqb own 0) && not ((finished || (wrong || second)) || (taken || (deep || (full || not fit))))) ≡ true
-    → 0 ≡ rowsBy number own finished wrong second taken deep full fit
-rows-none number own finished wrong second taken deep full fit e =
+pub rows-none : (number own : ℕ) (finished wrong second taken deep full unkept fit : Bool)
+    → ((eqb number 0 && eqb own 0) && not ((finished || (wrong || second)) || (taken || (deep || (full || (unkept || not fit)))))) ≡ true
+    → 0 ≡ rowsBy number own finished wrong second taken deep full unkept fit
+rows-none number own finished wrong second taken deep full unkept fit e =
     let k = both (eqb number 0 && eqb own 0) _ e in
     let z = both (eqb number 0) (eqb own 0) (k .0) in
-    go finished wrong second taken deep full fit (k .1) (eqb-true number 0 (z .0)) (eqb-true own 0 (z .1))
+    go finished wrong second taken deep full unkept fit (k .1) (eqb-true number 0 (z .0)) (eqb-true own 0 (z .1))
   where
-    go : (a c d t p u w : Bool) → not ((a || (c || d)) || (t || (p || (u || not w)))) ≡ true → number ≡ 0 → own ≡ 0 → 0 ≡ rowsBy number own a c d t p u w
-    go true c d t p u w e n o = absurd (true≢false (sym e))
-    go false true d t p u w e n o = absurd (true≢false (sym e))
-    go false false true t p u w e n o = absurd (true≢false (sym e))
-    go false false false true p u w e n o = absurd (true≢false (sym e))
-    go false false false false true u w e n o = absurd (true≢false (sym e))
-    go false false false false false true w e n o = absurd (true≢false (sym e))
-    go false false false false false false false e n o = absurd (true≢false (sym e))
-    go false false false false false false true e n o = rw (n, o)
+    go : (a c d t p u k w : Bool) → not ((a || (c || d)) || (t || (p || (u || (k || not w))))) ≡ true → number ≡ 0 → own ≡ 0 → 0 ≡ rowsBy number own a c d t p u k w
+    go true c d t p u k w e n o = absurd (true≢false (sym e))
+    go false true d t p u k w e n o = absurd (true≢false (sym e))
+    go false false true t p u k w e n o = absurd (true≢false (sym e))
+    go false false false true p u k w e n o = absurd (true≢false (sym e))
+    go false false false false true u k w e n o = absurd (true≢false (sym e))
+    go false false false false false true k w e n o = absurd (true≢false (sym e))
+    go false false false false false false true w e n o = absurd (true≢false (sym e))
+    go false false false false false false false false e n o = absurd (true≢false (sym e))
+    go false false false false false false false true e n o = rw (n, o)
 
 -- ---- the rows, from what is known of the name
 
@@ -66,14 +68,14 @@ misnamed-by true name v = refl
 misnamed-by false name v = refl
 
 pub enter-rows : (v : View) (l : Storage) (named : Bool) (name : Name) (f : Named) (into opens : Bool) (own size : ℕ) → brokenOf v l ≡ false → Sees into v l (nameOf named name) f
-    → enterBy v f named into opens own (fits (v .counts .value) size (length (l .value))) (length (l .entries)) ≡ first (enterRows v l (nameOf named name) into opens own size)
+    → enterBy v f named into opens own (fits (v .counts .value) size (length (l .value))) (length (l .entries)) (length (l .undo)) ≡ first (enterRows v l (nameOf named name) into opens own size)
 unfolding first
 enter-rows v l named name f into opens own size e s =
     let b = broken-none v l e in
     let nm = nameOf named name in
     let m = misnamed-by named name v in
     known-front into v l nm f s
-    (λ n live. enterBy v (record { field = record { id = 0; place = 0; new = false; live = live }; number = n }) named into opens own (fits (v .counts .value) size (length (l .value))) (length (l .entries)) ≡ first (enterRows v l nm into opens own size))
+    (λ n live. enterBy v (record { field = record { id = 0; place = 0; new = false; live = live }; number = n }) named into opens own (fits (v .counts .value) size (length (l .value))) (length (l .entries)) (length (l .undo)) ≡ first (enterRows v l nm into opens own size))
     (λ p. rw (b .0, b .1, b .2, p))
     (λ p q. rw (b .0, b .1, b .2, p, q, m))
     (λ p q r. rw (b .0, b .1, b .2, p, q, r, m))
@@ -91,9 +93,9 @@ past-own : (own rest : ℕ) → cond (not (eqb own 0)) own rest ≡ 0 → rest �
 past-own zero rest e = e
 past-own (suc n) rest e = let z : suc n ≡ 0 = rw (ne-eqb (suc n) 0 (λ p. omega arith)) at e in absurd (omega arith)
 
-rows-zero : (number own : ℕ) (finished wrong second taken deep full fit : Bool) → rowsBy number own finished wrong second taken deep full fit ≡ 0
+rows-zero : (number own : ℕ) (finished wrong second taken deep full unkept fit : Bool) → rowsBy number own finished wrong second taken deep full unkept fit ≡ 0
     → (eqb number 1 ≡ false) × ((eqb number 9 ≡ false) × (eqb number 12 ≡ false))
-rows-zero number own finished wrong second taken deep full fit e =
+rows-zero number own finished wrong second taken deep full unkept fit e =
     let a = past (eqb number 1) 0 _ e in
     let b = past finished 1 _ (a .1) in
     let d = past wrong 4 _ (b .1) in
@@ -155,13 +157,13 @@ decides-broken {v = v} {l = l} m rs e q d = let z = damaged-broken v l m e in re
 -- ---- as the code has it
 
 module _ (v : View) (l : Storage) (named : Bool) (name : Name) {f : Named} {r : Decided} {n : ℕ} {into : Bool} (e : brokenOf v l ≡ false) (s : Sees into v l (nameOf named name) f) where
-  pub enter-decides : (opens : Bool) (own size : ℕ) {fit : Bool} → fit ≡ fits (v .counts .value) size (length (l .value)) → n ≡ enterBy v f named into opens own fit (length (l .entries))
+  pub enter-decides : (opens : Bool) (own size : ℕ) {fit : Bool} → fit ≡ fits (v .counts .value) size (length (l .value)) → n ≡ enterBy v f named into opens own fit (length (l .entries)) (length (l .undo))
       → r ≡ decidedOf n (f .field) → Decides (first (enterRows v l (nameOf named name) into opens own size)) into v l (nameOf named name) r
   enter-decides opens own size {fit} t p d =
       decides s
       (λ z. let q = rows-zero (f .number) own (v .counts .finished) (into && misnamedBy named v) (into && secondTop v) (uniqueNow v && f .field .live)
-      (opens && leb 64 (v .counts .depth)) (fullBy into v (f .field .live) (length (l .entries))) fit (sym p ∙ z) in name-zero v l (nameOf named name) f s (q .0) (q .1 .0) (q .1 .1))
-      (sym (p ∙ (ap (λ b. enterBy v f named into opens own b (length (l .entries))) t ∙ enter-rows v l named name f into opens own size e s))) d
+      (opens && leb 64 (v .counts .depth)) (fullBy into v (f .field .live) (length (l .entries))) (unkeptBy v (f .field .live) (length (l .undo))) fit (sym p ∙ z) in name-zero v l (nameOf named name) f s (q .0) (q .1 .0) (q .1 .1))
+      (sym (p ∙ (ap (λ b. enterBy v f named into opens own b (length (l .entries)) (length (l .undo))) t ∙ enter-rows v l named name f into opens own size e s))) d
 
 -- ---- each call's rows
 

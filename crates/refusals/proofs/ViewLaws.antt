@@ -17,6 +17,7 @@ use Rattle.semantics.specs.declared.View.{View}
 use Rattle.semantics.specs.Record.{Storage, Call, register, append, openIn, close, rollBack, uniqueness, finish, countable, isOpen, inList, innerSize}
 use Rattle.semantics.specs.Damage.{overUsed, grown, unchained, badFloor, fallenEnds, misplacedInner, misread, damaged}
 use Rattle.semantics.specs.Table.{rows, numberOf}
+use Rattle.semantics.proofs.ViewLaws.{both}
 use Rattle.semantics.proofs.Demand1.{damaged-number}
 use Rattle.refusals.specs.Decide.{brokenOf, closeBy, finishBy}
 
@@ -24,11 +25,6 @@ use Rattle.refusals.specs.Decide.{brokenOf, closeBy, finishBy}
 pub neither : (t u : Bool) → (t || u) ≡ false → (t ≡ false) × (u ≡ false)
 neither true u e = absurd (true≢false e)
 neither false u e = (refl, e)
-
--- both tests of an `&&` that holds do
-pub both : (t u : Bool) → (t && u) ≡ true → (t ≡ true) × (u ≡ true)
-both true u e = (refl, e)
-both false u e = absurd (true≢false (sym e))
 
 -- a number 0: the first row does not hold, and the rest is 0
 pub past : (t : Bool) (n r : ℕ) → cond t (suc n) r ≡ 0 → (t ≡ false) × (r ≡ 0)
@@ -85,11 +81,12 @@ undamaged-unbroken v l x e =
 pub damaged-none : (v : View) (l : Storage) (x : Bool) → brokenOf v l ≡ false → damaged v l x ≡ x
 damaged-none v l x e = let b = broken-none v l e in rw (b .0, b .1, b .2)
 
--- the names and the entries lie within the lent slices
+-- the names, the entries and the undo records lie within the lent slices
 pub record Within (v : View) (l : Storage) : Type 0 where
   pub text : exceeds (v .counts .dictionary) (length (l .text)) (length (l .ends)) ≡ false
   pub names : fieldNames (v .counts .dictionary) ≤ length (l .ends)
   pub entries : v .counts .entries ≤ roomFor (length (l .entries))
+  pub undo : v .counts .undo ≤ roomFor (length (l .undo))
 
 -- and do
 pub within : (v : View) (l : Storage) → brokenOf v l ≡ false → Within v l
@@ -99,7 +96,8 @@ within v l e =
     let x = exceeds m (length (l .text)) (length (l .ends)) in
     let o = neither x _ (neither (ltb (counted (length (l .value))) (v .counts .value)) _ (broken-none v l e .0) .1) in
     let n = neither (ltb (counted (length (l .text))) (textSize m)) (ltb (length (l .ends)) (fieldNames m)) (o .0) in
-    record { text = o .0; names = ltb-false _ _ (n .1); entries = ltb-false _ _ (o .1) }
+    let u = neither (ltb (roomFor (length (l .entries))) (v .counts .entries)) _ (o .1) in
+    record { text = o .0; names = ltb-false _ _ (n .1); entries = ltb-false _ _ (u .0); undo = ltb-false _ _ (u .1) }
 
 -- the used entries lie within the lent numbers
 pub entries-within : (v : View) (l : Storage) → brokenOf v l ≡ false → v .counts .entries ≤ roomFor (length (l .entries))
@@ -109,6 +107,7 @@ entries-within v l e = within v l e .entries
 pub record Grown (v : View) : Type 0 where
   pub value : leb (v .inner .value) (v .counts .value) ≡ true
   pub entries : leb (v .inner .entries) (v .counts .entries) ≡ true
+  pub undo : leb (v .inner .undo) (v .counts .undo) ≡ true
   pub elements : countable (v .inner) (v .elements) (innerSize v) ≡ true
 
 pub grown-within : (v : View) (l : Storage) → brokenOf v l ≡ false → Grown v
@@ -119,7 +118,8 @@ grown-within v l e =
     let n = both (leb (v .inner .names) (fieldNames (v .counts .dictionary))) _ (k .1) .1 in
     let t = both (leb (v .inner .text) (textSize (v .counts .dictionary))) _ n .1 in
     let i = both (leb (v .inner .entries) (v .counts .entries)) _ t in
-    record { value = k .0; entries = i .0; elements = i .1 }
+    let u = both (leb (v .inner .undo) (v .counts .undo)) _ (i .1) in
+    record { value = k .0; entries = i .0; undo = u .0; elements = u .1 }
 
 -- the innermost's entries start within the lent numbers
 pub inner-within : (v : View) (l : Storage) → brokenOf v l ≡ false → v .inner .entries ≤ roomFor (length (l .entries))

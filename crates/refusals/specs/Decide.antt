@@ -15,7 +15,7 @@ use Rattle.semantics.specs.declared.ParentEntry.{ParentEntry}
 use Rattle.semantics.specs.declared.ParentEntry.the-variants.{New, Replaced}
 use Rattle.semantics.specs.declared.View.{View}
 use Rattle.semantics.specs.Record.{Storage, close, finish, inObject, innerEntries, parentSize, parentEntries, uniqueNow}
-use Rattle.semantics.specs.Damage.{damaged, fallenEnds, misplacedInner, overUsed, unchained, badFloor, misplacedParent, orphaned}
+use Rattle.semantics.specs.Damage.{damaged, fallenEnds, misplacedInner, overUsed, unchained, badFloor, misplacedParent, orphaned, unrecorded}
 use Rattle.semantics.specs.Table.{rows, held, liveUnder, badName, misnamed, namesFull, secondTop, tooLong}
 use Rattle.semantics.specs.Step.{idFor, placeFor}
 use Rattle.refusals.specs.declared.Field.{Field}
@@ -96,13 +96,19 @@ toldBy k = record { number = k .number; id = k .id; new = k .new }
 abbrev pub fullBy : Bool → View → Bool → ℕ → Bool
 fullBy into v live lent = ((into && inObject v) && not live) && leb (roomFor lent) (v .counts .entries)
 
--- the rows of a name, an entry and room, from 9 on
+-- 23, from whether the name is live
+abbrev pub unkeptBy : View → Bool → ℕ → Bool
+unkeptBy v live lent = (live && ltb 0 (v .inner .marks)) && leb (roomFor lent) (v .counts .undo)
+
+-- the rows of a name, an entry, its undo record and room, from 9 on
 abbrev pub lateRows : View → Storage → Option Name → Bool → Bool → ℕ → List Row
 lateRows v l nm into opens size =
     row 9 (badName nm)
     ∷ (row 10 (uniqueNow v && liveInto into v l nm)
     ∷ (row 11 (opens && leb 64 (v .counts .depth))
-    ∷ (row 12 (namesFull v l nm) ∷ (row 13 (fullBy into v (liveInto into v l nm) (length (l .entries))) ∷ (row 14 (tooLong v l size) ∷ [])))))
+    ∷ (row 12 (namesFull v l nm)
+    ∷ (row 13 (fullBy into v (liveInto into v l nm) (length (l .entries)))
+    ∷ (row 23 (unkeptBy v (liveInto into v l nm) (length (l .undo))) ∷ (row 14 (tooLong v l size) ∷ []))))))
 
 -- number 1's own part of a call that gives a name
 abbrev pub misreadInto : Bool → View → Storage → Option Name → Bool
@@ -126,20 +132,20 @@ abbrev pub decidedOf : ℕ → Field → Decided
 decidedOf n g = cond (eqb n 0) (record { field = g; number = 0 }) (record { field = noField; number = n })
 
 pub record ParentOf (v : View) (l : Storage) (r : Parent) : Type 0 where
-  pub damaged : r .damaged ≡ (misplacedParent v l || orphaned (v .inner .parent) (v .parent .object) (v .siblings) (parentSize v) (parentEntries v l))
+  pub damaged : r .damaged ≡ (misplacedParent v l || (orphaned (v .inner .parent) (v .parent .object) (v .siblings) (parentSize v) (parentEntries v l) || unrecorded (v .inner) (v .parent)))
   pub place : r .place ≡ placeBack v l (v .inner .parent)
 
 -- those rows, from what is known of the name
-abbrev pub rowsBy : ℕ → ℕ → Bool → Bool → Bool → Bool → Bool → Bool → Bool → ℕ
-rowsBy number own finished wrong second taken deep full fit =
+abbrev pub rowsBy : ℕ → ℕ → Bool → Bool → Bool → Bool → Bool → Bool → Bool → Bool → ℕ
+rowsBy number own finished wrong second taken deep full unkept fit =
     cond (eqb number 1) 1
     (cond finished 2
     (cond wrong 5
     (cond second 6
     (cond (not (eqb own 0)) own
-    (cond (eqb number 9) 9 (cond taken 10 (cond deep 11 (cond (eqb number 12) 12 (cond full 13 (cond (not fit) 14 0))))))))))
+    (cond (eqb number 9) 9 (cond taken 10 (cond deep 11 (cond (eqb number 12) 12 (cond full 13 (cond unkept 23 (cond (not fit) 14 0)))))))))))
 
-abbrev pub enterBy : View → Named → Bool → Bool → Bool → ℕ → Bool → ℕ → ℕ
-enterBy v f named into opens own fit lent =
+abbrev pub enterBy : View → Named → Bool → Bool → Bool → ℕ → Bool → ℕ → ℕ → ℕ
+enterBy v f named into opens own fit lent undo =
     rowsBy (f .number) own (v .counts .finished) (into && misnamedBy named v) (into && secondTop v) (uniqueNow v && f .field .live)
-    (opens && leb 64 (v .counts .depth)) (fullBy into v (f .field .live) lent) fit
+    (opens && leb 64 (v .counts .depth)) (fullBy into v (f .field .live) lent) (unkeptBy v (f .field .live) undo) fit

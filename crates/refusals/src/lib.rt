@@ -8,6 +8,8 @@ pub use numbers::close_number;
 pub use numbers::enter_number;
 pub use numbers::finish_number;
 pub use numbers::make_number;
+pub use numbers::mark_number;
+pub use numbers::return_number;
 pub use numbers::rollback_number;
 pub use numbers::unique_number;
 pub use view::row;

@@ -77,12 +77,14 @@ pub(crate) fn field_of(
     text: &[u8],
     ends: &[usize],
     entries: &[usize],
+    undo: &[usize],
     named: bool,
     name: &[u8],
     into: bool,
 ) -> Named
-    requires { ⌜ brokenOf v (storageOf (now value) (now text) (now ends) (now entries)) ≡ false ⌝ }
-    ensures { λ r. ⌜ Sees into v (storageOf (now (value .entry)) (now (text .entry)) (now (ends .entry)) (now (entries .entry)))
+    requires { ⌜ brokenOf v (storageOf (now value) (now text) (now ends) (now entries) (now undo)) ≡ false ⌝ }
+    ensures { λ r. ⌜ Sees into v
+        (storageOf (now (value .entry)) (now (text .entry)) (now (ends .entry)) (now (entries .entry)) (now (undo .entry)))
         (nameOf named (now (name .entry))) r ⌝ }
 {
     if !named {

@@ -30,10 +30,10 @@ ghost use Prim.Native.Nat.{ℕ, _≤_};
 ghost use lib.ListN.{length};
 ghost use Rattle.encoding.specs.Rows.{first};
 ghost use Rattle.container.specs.Entries.{roomFor};
-ghost use Rattle.semantics.specs.Record.{rollBack, uniqueness, storageOf};
+ghost use Rattle.semantics.specs.Record.{returnTo, rollBack, setMark, uniqueness, storageOf};
 ghost use Rattle.semantics.specs.Damage.{uncounted};
 ghost use Rattle.semantics.specs.Table.{makeRows, numberOf};
-ghost use Rattle.refusals.specs.Decide.{ClosesBy, Decides, ParentOf, enterBy, enterRows, finishBy, fullBy, rowsBy, Undoes, decidedOf, nameOf};
+ghost use Rattle.refusals.specs.Decide.{ClosesBy, Decides, ParentOf, enterBy, enterRows, finishBy, fullBy, rowsBy, unkeptBy, Undoes, decidedOf, nameOf};
 
 // A register's, an append's and an open's. `into` is false of a register, which enters nothing into a container, whatever is open;
 // `opens` is true of an open; `own` is the scalar's own number, 0 where it has none; `size` is the scalar's bytes.
@@ -43,6 +43,7 @@ pub fn enter_number(
     text: &[u8],
     ends: &[usize],
     entries: &[usize],
+    undo: &[usize],
     named: bool,
     name: &[u8],
     into: bool,
@@ -52,14 +53,14 @@ pub fn enter_number(
 ) -> Decided
     ensures { λ r. ⌜ Decides
         (first
-        (enterRows v (storageOf (now (value .entry)) (now (text .entry)) (now (ends .entry)) (now (entries .entry)))
+        (enterRows v (storageOf (now (value .entry)) (now (text .entry)) (now (ends .entry)) (now (entries .entry)) (now (undo .entry)))
         (nameOf named (now (name .entry))) into opens own size)) into v
-        (storageOf (now (value .entry)) (now (text .entry)) (now (ends .entry)) (now (entries .entry))) (nameOf named (now (name .entry))) r ⌝ }
+        (storageOf (now (value .entry)) (now (text .entry)) (now (ends .entry)) (now (entries .entry)) (now (undo .entry))) (nameOf named (now (name .entry))) r ⌝ }
 {
-    if broken(v, value, text, ends, entries) {
+    if broken(v, value, text, ends, entries, undo) {
         return decided(1, no_field());
     }
-    let f = field_of(v, value, text, ends, entries, named, name, into);
+    let f = field_of(v, value, text, ends, entries, undo, named, name, into);
     let g = f.field;
     let n = enter_rows(
         v,
@@ -70,6 +71,7 @@ pub fn enter_number(
         own,
         fits(v.counts.value, size, value.len()),
         entries,
+        undo,
     );
     decided(n, g)
 }
@@ -83,8 +85,9 @@ fn enter_rows(
     own: u8,
     fit: bool,
     entries: &[usize],
+    undo: &[usize],
 ) -> u8
-    ensures { λ r. ⌜ r ≡ enterBy v f named into opens own fit (length (now (entries .entry))) ⌝ }
+    ensures { λ r. ⌜ r ≡ enterBy v f named into opens own fit (length (now (entries .entry))) (length (now (undo .entry))) ⌝ }
 {
     let g = f.field;
     let wrong = into & misnamed(v, named);
@@ -92,6 +95,7 @@ fn enter_rows(
     let taken = unique_now(v) & g.live;
     let deep = opens & (64 <= v.counts.depth);
     let full = entries_full(v, into, g.live, entries);
+    let unkept = undo_full(v, g.live, undo);
     rows(
         f.number,
         own,
@@ -101,6 +105,7 @@ fn enter_rows(
         taken,
         deep,
         full,
+        unkept,
         fit,
     )
 }
@@ -115,17 +120,19 @@ fn rows(
     taken: bool,
     deep: bool,
     full: bool,
+    unkept: bool,
     fit: bool,
 ) -> u8
-    ensures { λ r. ⌜ r ≡ rowsBy number own finished wrong second taken deep full fit ⌝ }
+    ensures { λ r. ⌜ r ≡ rowsBy number own finished wrong second taken deep full unkept fit ⌝ }
 {
     let known = (number == 0) & (own == 0);
-    let one = (finished | (wrong | second)) | (taken | (deep | (full | !fit)));
+    let one = (finished | (wrong | second)) | (taken | (deep | (full | (unkept | !fit))));
     if known & !one {
         return 0;
     }
-    let room = row(number == 12, 12, row(full, 13, row(!fit, 14, 0)));
-    let late = row(number == 9, 9, row(taken, 10, row(deep, 11, room)));
+    let room = row(full, 13, row(unkept, 23, row(!fit, 14, 0)));
+    let held = row(deep, 11, row(number == 12, 12, room));
+    let late = row(number == 9, 9, row(taken, 10, held));
     let rest = row(own != 0, own, late);
     row(
         number == 1,
@@ -142,10 +149,11 @@ pub fn close_number(
     text: &[u8],
     ends: &[usize],
     entries: &[usize],
+    undo: &[usize],
 ) -> Closing
-    ensures { λ r. ⌜ ClosesBy v (storageOf (now (value .entry)) (now (text .entry)) (now (ends .entry)) (now (entries .entry))) r ⌝ }
+    ensures { λ r. ⌜ ClosesBy v (storageOf (now (value .entry)) (now (text .entry)) (now (ends .entry)) (now (entries .entry)) (now (undo .entry))) r ⌝ }
 {
-    if broken(v, value, text, ends, entries) {
+    if broken(v, value, text, ends, entries, undo) {
         return Closing {
             number: 1,
             largest: 0,
@@ -168,7 +176,7 @@ pub fn close_number(
 
 // Where row 2 holds: is the data of the innermost list not as many whole values as it counts?
 fn late_uncounted(v: View, value: &[u8]) -> bool
-    ensures { λ r. ⌜ ((text ends entries : List ℕ) → r ≡ (v .counts .finished && uncounted v (storageOf (now (value .entry)) text ends entries))) ⌝ }
+    ensures { λ r. ⌜ ((text ends entries undo : List ℕ) → r ≡ (v .counts .finished && uncounted v (storageOf (now (value .entry)) text ends entries undo))) ⌝ }
 {
     if v.counts.finished & in_list(v) {
         return !whole_values(value, v.inner.value, v.counts.value, v.elements);
@@ -178,10 +186,17 @@ fn late_uncounted(v: View, value: &[u8]) -> bool
 
 // Rows 1, 2, 4 and 15 of a finish. The name ends are asked only where 2, 4 or 15 holds: else the dictionary asks them as it is
 // written, for its rows 1 and 16.
-pub fn finish_number(v: View, value: &[u8], text: &[u8], ends: &[usize], entries: &[usize]) -> u8
-    ensures { λ r. ⌜ ((out : List ℕ) → r ≡ finishBy v (storageOf (now (value .entry)) (now (text .entry)) (now (ends .entry)) (now (entries .entry))) out) ⌝ }
+pub fn finish_number(
+    v: View,
+    value: &[u8],
+    text: &[u8],
+    ends: &[usize],
+    entries: &[usize],
+    undo: &[usize],
+) -> u8
+    ensures { λ r. ⌜ ((out : List ℕ) → r ≡ finishBy v (storageOf (now (value .entry)) (now (text .entry)) (now (ends .entry)) (now (entries .entry)) (now (undo .entry))) out) ⌝ }
 {
-    if broken(v, value, text, ends, entries) {
+    if broken(v, value, text, ends, entries, undo) {
         return 1;
     }
     let c = v.counts;
@@ -200,12 +215,13 @@ pub fn rollback_number(
     text: &[u8],
     ends: &[usize],
     entries: &[usize],
+    undo: &[usize],
 ) -> Undone
     ensures { λ r. ⌜ Undoes
-        (numberOf v (storageOf (now (value .entry)) (now (text .entry)) (now (ends .entry)) (now (entries .entry))) rollBack) v
-        (storageOf (now (value .entry)) (now (text .entry)) (now (ends .entry)) (now (entries .entry))) r ⌝ }
+        (numberOf v (storageOf (now (value .entry)) (now (text .entry)) (now (ends .entry)) (now (entries .entry)) (now (undo .entry))) rollBack) v
+        (storageOf (now (value .entry)) (now (text .entry)) (now (ends .entry)) (now (entries .entry)) (now (undo .entry))) r ⌝ }
 {
-    if broken(v, value, text, ends, entries) {
+    if broken(v, value, text, ends, entries, undo) {
         return Undone {
             place: 0,
             number: 1,
@@ -230,13 +246,64 @@ pub fn rollback_number(
     }
 }
 
-pub fn unique_number(v: View, value: &[u8], text: &[u8], ends: &[usize], entries: &[usize]) -> u8
+pub fn unique_number(
+    v: View,
+    value: &[u8],
+    text: &[u8],
+    ends: &[usize],
+    entries: &[usize],
+    undo: &[usize],
+) -> u8
     ensures { λ r. ⌜
-        ((u : Bool) → r ≡ numberOf v (storageOf (now (value .entry)) (now (text .entry)) (now (ends .entry)) (now (entries .entry)))
+        ((u : Bool) → r ≡ numberOf v (storageOf (now (value .entry)) (now (text .entry)) (now (ends .entry)) (now (entries .entry)) (now (undo .entry)))
         (uniqueness u)) ⌝ }
 {
-    let bad = broken(v, value, text, ends, entries);
+    let bad = broken(v, value, text, ends, entries, undo);
     row(bad, 1, row(v.counts.finished, 2, row(!in_object(v), 3, 0)))
+}
+
+// A mark to be set: 22 where none is free, or no container is open.
+pub fn mark_number(
+    v: View,
+    value: &[u8],
+    text: &[u8],
+    ends: &[usize],
+    entries: &[usize],
+    undo: &[usize],
+) -> u8
+    ensures { λ r. ⌜ r ≡ numberOf v
+        (storageOf (now (value .entry)) (now (text .entry)) (now (ends .entry)) (now (entries .entry)) (now (undo .entry))) setMark ⌝ }
+{
+    let bad = broken(v, value, text, ends, entries, undo);
+    let none = !is_open(v) | (16 <= v.inner.marks);
+    row(bad, 1, row(v.counts.finished, 2, row(none, 22, 0)))
+}
+
+// A return to mark j: 22 where that one is not set. It reads the innermost entries.
+pub fn return_number(
+    v: View,
+    value: &[u8],
+    text: &[u8],
+    ends: &[usize],
+    entries: &[usize],
+    undo: &[usize],
+    j: usize,
+) -> u8
+    ensures { λ r. ⌜ r ≡ numberOf v
+        (storageOf (now (value .entry)) (now (text .entry)) (now (ends .entry)) (now (entries .entry)) (now (undo .entry))) (returnTo j) ⌝ }
+{
+    if broken(v, value, text, ends, entries, undo) {
+        return 1;
+    }
+    let c = v.counts;
+    let k = v.inner;
+    let m = c.dictionary;
+    let names = num_field_names(m);
+    let size = saturating_sub(c.value, k.value);
+    let s = search_entries(entries, k.entries, c.entries, true, names, size, 0);
+    let misread = in_object(v) & s.misplaced;
+    let unset = !is_open(v) | ((j == 0) | (k.marks < j));
+    row(misread, 1, row(c.finished, 2, row(unset, 22, 0)))
 }
 
 // A builder to be made: 24 for a floor that is not 1 to 4.
@@ -268,6 +335,13 @@ fn entries_full(v: View, into: bool, live: bool, entries: &[usize]) -> bool
     ((into & in_object(v)) & !live) & (entries.len() / 2 <= v.counts.entries)
 }
 
+// Row 23, of a name that is live or not: a replacement in an object with a mark takes an undo record.
+fn undo_full(v: View, live: bool, undo: &[usize]) -> bool
+    ensures { λ r. ⌜ r ≡ unkeptBy v live (length (now (undo .entry))) ⌝ }
+{
+    (live & (0 < v.inner.marks)) & (undo.len() / 2 <= v.counts.undo)
+}
+
 // For a child that is not at the top level: is its parent damaged for it, and where is the parent's entry of its id. A list has no
 // entries, but elements, the child among them.
 struct Parent {
@@ -277,7 +351,7 @@ struct Parent {
 
 fn parent_entry(v: View, entries: &[usize]) -> Parent
     requires { ⌜ v .inner .entries ≤ roomFor (length (now entries)) ⌝ }
-    ensures { λ r. ⌜ ((value text ends : List ℕ) → ParentOf v (storageOf value text ends (now (entries .entry))) r) ⌝ }
+    ensures { λ r. ⌜ ((value text ends undo : List ℕ) → ParentOf v (storageOf value text ends (now (entries .entry)) undo) r) ⌝ }
 {
     let k = v.inner;
     let p = v.parent;
@@ -296,9 +370,11 @@ fn parent_entry(v: View, entries: &[usize]) -> Parent
         }
         ParentEntry::Replaced { id, offset } => {
             let s = search_entries(entries, p.entries, k.entries, true, names, size, id);
+            let unfit = !(s.place < k.entries) | (size < offset);
+            let unrecorded = (0 < p.marks) & (k.undo == p.undo);
             Parent {
                 place: s.place,
-                damaged: !p.object | (s.misplaced | (!(s.place < k.entries) | (size < offset))),
+                damaged: !p.object | (s.misplaced | (unfit | unrecorded)),
             }
         }
     }

@@ -34,12 +34,21 @@ pub fn row(test: bool, number: u8, rest: u8) -> u8
 }
 
 // What every call asks of number 1.
-pub(crate) fn broken(v: View, value: &[u8], text: &[u8], ends: &[usize], entries: &[usize]) -> bool
-    ensures { λ r. ⌜ r ≡ brokenOf v (storageOf (now (value .entry)) (now (text .entry)) (now (ends .entry)) (now (entries .entry))) ⌝ }
+pub(crate) fn broken(
+    v: View,
+    value: &[u8],
+    text: &[u8],
+    ends: &[usize],
+    entries: &[usize],
+    undo: &[usize],
+) -> bool
+    ensures { λ r. ⌜ r ≡ brokenOf v
+        (storageOf (now (value .entry)) (now (text .entry)) (now (ends .entry)) (now (entries .entry)) (now (undo .entry))) ⌝ }
 {
     let c = v.counts;
     let m = c.dictionary;
-    ((counted(value.len()) < c.value) | (exceeds(m, text, ends) | (entries.len() / 2 < c.entries)))
+    let over = (entries.len() / 2 < c.entries) | (undo.len() / 2 < c.undo);
+    ((counted(value.len()) < c.value) | (exceeds(m, text, ends) | over))
         | (!(v.chain & grown(v)) | !good_floor(c.floor))
 }
 
@@ -53,8 +62,8 @@ fn grown(v: View) -> bool
     let names = num_field_names(m);
     let text = metadata_size(m);
     let few = k.object | (v.elements <= saturating_sub(c.value, k.value));
-    (k.value <= c.value)
-        & ((k.names <= names) & ((k.text <= text) & ((k.entries <= c.entries) & few)))
+    let late = (k.entries <= c.entries) & ((k.undo <= c.undo) & few);
+    (k.value <= c.value) & ((k.names <= names) & ((k.text <= text) & late))
 }
 
 pub(crate) fn is_open(v: View) -> bool

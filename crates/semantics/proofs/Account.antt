@@ -11,9 +11,9 @@ use Rattle.semantics.proofs.RunLaws.{follows-run}
 
 -- "From a fresh builder on, used value bytes always equal the bytes of the scalars kept plus the headers closed, summed over
 -- the calls; replaced ones count, struck-out scalars and headers don't": `always`, since cs is any list of calls.
-pub account : (s : State) (cs : List Call) → Fresh (s .builder) → run s cs .builder .counts .value ≡ total (accountOf s cs .sums)
+pub account : (s : State) (cs : List Call) → Fresh s → run s cs .builder .counts .value ≡ total (accountOf s cs .tallies)
 account s cs f = let x = follows-run s cs f in x .represents .stored .value ∙ linked-account (x .linked)
 
 -- the used count is the length of the value bytes: they all lie in the lent ones
-pub used : (s : State) (cs : List Call) → Fresh (s .builder) → run s cs .builder .counts .value ≡ length (valueBytes (run s cs))
+pub used : (s : State) (cs : List Call) → Fresh s → run s cs .builder .counts .value ≡ length (valueBytes (run s cs))
 used s cs f = let x = follows-run s cs f in x .represents .stored .value ∙ ap length (sym (represents-value (x .represents)))

@@ -14,7 +14,7 @@ use Rattle.encoding.proofs.RowsLaws.{first-exact, first-listed, first-none, cle
 use Rattle.value.specs.Scalar.{scalarBytes}
 use Rattle.metadata.specs.Names.{Name}
 use Rattle.semantics.specs.declared.View.{View}
-use Rattle.semantics.specs.Record.{Storage, State, viewOf, Scalars, fixed, civil, packed, bytes, uuid, Call, register, append, openIn, close, rollBack, uniqueness, finish, scalarOf, goodFloor}
+use Rattle.semantics.specs.Record.{Storage, State, viewAt, Scalars, fixed, civil, packed, bytes, uuid, Call, register, append, openIn, close, rollBack, uniqueness, setMark, returnTo, finish, scalarOf, goodFloor}
 use Rattle.semantics.specs.Damage.{overUsed, unchained, badFloor, misread, damaged}
 use Rattle.semantics.specs.Table.{scalarRows, frontRows, backRows, appendRows, rows, makeRows, numberOf}
 use Rattle.semantics.specs.Step.{step, lentOutput}
@@ -31,6 +31,8 @@ in-order v l (openIn nm k) = refl
 in-order v l close = refl
 in-order v l rollBack = refl
 in-order v l (uniqueness u) = refl
+in-order v l setMark = refl
+in-order v l (returnTo j) = refl
 in-order v l (finish out) = refl
 
 -- so is that of a builder being made
@@ -80,6 +82,8 @@ damaged-number v l (openIn nm k) e = rw e
 damaged-number v l close e = rw e
 damaged-number v l rollBack e = rw e
 damaged-number v l (uniqueness u) e = rw e
+damaged-number v l setMark e = rw e
+damaged-number v l (returnTo j) e = rw e
 damaged-number v l (finish out) e = rw e
 
 -- so that a builder which holds another floor than 1 to 4 has it at every call
@@ -95,17 +99,18 @@ floor-number v l c e = damaged-number v l c (rw e (late (overUsed v l) (unchaine
 -- "after a number the builder and all the storage are as before", the output of a finish too
 pub number-leaves : (s : State) (c : Call) → (step s c .number ≡ 0 → ⊥) → (step s c .state ≡ s) × (step s c .output ≡ lentOutput c) × (step s c .written ≡ 0)
 unfolding step
-number-leaves s c = go (eqb (numberOf (viewOf (s .builder)) (s .storage) c) 0) refl
+number-leaves s c = go (eqb (numberOf (viewAt s) (s .storage) c) 0) refl
   where
-    go : (t : Bool) → eqb (numberOf (viewOf (s .builder)) (s .storage) c) 0 ≡ t → (step s c .number ≡ 0 → ⊥) → (step s c .state ≡ s) × (step s c .output ≡ lentOutput c) × (step s c .written ≡ 0)
+    go : (t : Bool) → eqb (numberOf (viewAt s) (s .storage) c) 0 ≡ t → (step s c .number ≡ 0 → ⊥)
+        → (step s c .state ≡ s) × (step s c .output ≡ lentOutput c) × (step s c .written ≡ 0)
     go true p h = absurd (h (rw p))
     go false p h = rw p (refl, refl, refl)
 
 -- `step` answers that number
-pub step-number : (s : State) (c : Call) → step s c .number ≡ numberOf (viewOf (s .builder)) (s .storage) c
+pub step-number : (s : State) (c : Call) → step s c .number ≡ numberOf (viewAt s) (s .storage) c
 unfolding step
-step-number s c = go (eqb (numberOf (viewOf (s .builder)) (s .storage) c) 0) refl
+step-number s c = go (eqb (numberOf (viewAt s) (s .storage) c) 0) refl
   where
-    go : (t : Bool) → eqb (numberOf (viewOf (s .builder)) (s .storage) c) 0 ≡ t → step s c .number ≡ numberOf (viewOf (s .builder)) (s .storage) c
-    go true p = rw p (sym (eqb-true (numberOf (viewOf (s .builder)) (s .storage) c) 0 p))
+    go : (t : Bool) → eqb (numberOf (viewAt s) (s .storage) c) 0 ≡ t → step s c .number ≡ numberOf (viewAt s) (s .storage) c
+    go true p = rw p (sym (eqb-true (numberOf (viewAt s) (s .storage) c) 0 p))
     go false p = rw p

@@ -14,7 +14,7 @@ use Rattle.encoding.specs.Slices.{write}
 use Rattle.encoding.proofs.RowsLaws.{first-unlisted}
 use Rattle.metadata.specs.Bytes.{dictionary, dictionaryNames}
 use Rattle.semantics.specs.declared.Container.{Container}
-use Rattle.semantics.specs.Record.{State, viewOf, fixed, civil, packed, bytes, uuid, Call, register, append, openIn, close, rollBack, uniqueness, finish}
+use Rattle.semantics.specs.Record.{State, viewAt, fixed, civil, packed, bytes, uuid, Call, register, append, openIn, close, rollBack, uniqueness, setMark, returnTo, finish}
 use Rattle.semantics.specs.Step.{step, after, finished, dictionaryOf}
 use Rattle.semantics.specs.Tree.{Tree, encode}
 use Rattle.semantics.specs.Ledger.{Lent, Account, refusalOf, refusalRows}
@@ -28,7 +28,7 @@ use Rattle.semantics.proofs.RunLaws.{Follows, follows-run, follows-numb
 -- ---- the numbers
 
 -- THE NUMBERS: each call of each run gets the number that the accepted calls before it and the lent sizes give.
-pub numbers : (s : State) (cs : List Call) (c : Call) → Fresh (s .builder) → step (run s cs) c .number ≡ refusalOf (accountOf s cs) (lentBy (s .storage)) c
+pub numbers : (s : State) (cs : List Call) (c : Call) → Fresh s → step (run s cs) c .number ≡ refusalOf (accountOf s cs) (lentBy (s .storage)) c
 numbers s cs c f = follows-number (follows-run s cs f) c
 
 refusals-in-order : (a : Account) (lent : Lent) (c : Call) → inOrder (behind 1 order) (refusalRows a lent c) ≡ true
@@ -42,10 +42,12 @@ refusals-in-order a lent (openIn nm k) = refl
 refusals-in-order a lent close = refl
 refusals-in-order a lent rollBack = refl
 refusals-in-order a lent (uniqueness u) = refl
+refusals-in-order a lent setMark = refl
+refusals-in-order a lent (returnTo j) = refl
 refusals-in-order a lent (finish out) = refl
 
 -- so that number 1 never comes
-pub numbers-never-1 : (s : State) (cs : List Call) (c : Call) → Fresh (s .builder) → step (run s cs) c .number ≡ 1 → ⊥
+pub numbers-never-1 : (s : State) (cs : List Call) (c : Call) → Fresh s → step (run s cs) c .number ≡ 1 → ⊥
 unfolding refusalOf
 numbers-never-1 s cs c f e =
     let a = accountOf s cs in
@@ -66,7 +68,7 @@ module _ (s : State) (cs : List Call) (r : FinishedRun s cs) where
 
   -- the dictionary that the state gives
   abbrev stored : List ℕ
-  stored = dictionaryOf (viewOf (found .builder)) (found .storage)
+  stored = dictionaryOf (viewAt found) (found .storage)
 
   last-done : step found last ≡ record { number = 0; state = after found last; output = write 0 stored (run-ends r .out); written = length stored }
   last-done = step-done found last (run-ends r .number)

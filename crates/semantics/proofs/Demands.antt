@@ -9,7 +9,7 @@ use lib.ListN.{drop, length}
 use Rattle.encoding.specs.Rows.{FirstHolds, Clear, order, listed, first}
 use Rattle.encoding.proofs.RowsLaws.{first-none}
 use Rattle.metadata.specs.Bytes.{dictionaryNames}
-use Rattle.semantics.specs.Record.{State, Call, finish, viewOf, goodFloor}
+use Rattle.semantics.specs.Record.{State, Call, finish, viewAt, goodFloor}
 use Rattle.semantics.specs.Table.{rows, makeRows}
 use Rattle.semantics.specs.Step.{step, lentOutput}
 use Rattle.semantics.specs.Tree.{Tree, encode}
@@ -25,13 +25,13 @@ use Rattle.semantics.proofs.MadeLaws as calls
 -- 1 Total. Any call, in any order, with any bytes and any lent storage, is either carried out or answered with one number of
 -- document 01's table: s is any state, 0 says carried out, and a number comes where its row is the first that holds.
 pub known : (s : State) (c : Call) → (step s c .number ≡ 0) ⊎ (listed (step s c .number) order ≡ true)
-known s c = rw (one.step-number s c) (one.number-known (viewOf (s .builder)) (s .storage) c)
+known s c = rw (one.step-number s c) (one.number-known (viewAt s) (s .storage) c)
 
-pub carried-out : (s : State) (c : Call) → (step s c .number ≡ 0) ↔ Clear (rows (viewOf (s .builder)) (s .storage) c)
-carried-out s c = rw (one.step-number s c) (one.number-none (viewOf (s .builder)) (s .storage) c)
+pub carried-out : (s : State) (c : Call) → (step s c .number ≡ 0) ↔ Clear (rows (viewAt s) (s .storage) c)
+carried-out s c = rw (one.step-number s c) (one.number-none (viewAt s) (s .storage) c)
 
-pub answered : (s : State) (c : Call) (n : ℕ) → (n ≡ 0 → ⊥) → (step s c .number ≡ n) ↔ FirstHolds n (rows (viewOf (s .builder)) (s .storage) c)
-answered s c n z = rw (one.step-number s c) (one.number-exact (viewOf (s .builder)) (s .storage) c n z)
+pub answered : (s : State) (c : Call) (n : ℕ) → (n ≡ 0 → ⊥) → (step s c .number ≡ n) ↔ FirstHolds n (rows (viewAt s) (s .storage) c)
+answered s c n z = rw (one.step-number s c) (one.number-exact (viewAt s) (s .storage) c n z)
 
 -- After a number the builder and all the storage are as before, finish's output too.
 pub leaves : (s : State) (c : Call) → (step s c .number ≡ 0 → ⊥) → (step s c .state ≡ s) × (step s c .output ≡ lentOutput c) × (step s c .written ≡ 0)
@@ -43,7 +43,7 @@ pub made-floor : (floor : ℕ) → (first (makeRows floor) ≡ 0) ↔ Clear (mak
 made-floor floor = first-none order (makeRows floor) (one.make-order floor)
 
 pub bad-floor : (s : State) (c : Call) → goodFloor (floorOf s) ≡ false → step s c .number ≡ 1
-bad-floor s c e = rw (one.step-number s c) (one.floor-number (viewOf (s .builder)) (s .storage) c e)
+bad-floor s c e = rw (one.step-number s c) (one.floor-number (viewAt s) (s .storage) c e)
 
 -- "No call writes a value byte past its new end; finish writes only the dictionary": in any state, refused or not
 pub past-end : (s : State) (c : Call)
@@ -62,15 +62,15 @@ pub written : (s : State) (cs : List Call) → FinishedRun s cs → AcceptedFini
 written = two.written
 
 -- Each refusal comes under its listed condition and under no other: in a run, by the accepted calls and what is lent.
-pub numbers : (s : State) (cs : List Call) (c : Call) → Fresh (s .builder) → step (run s cs) c .number ≡ refusalOf (accountOf s cs) (lentBy (s .storage)) c
+pub numbers : (s : State) (cs : List Call) (c : Call) → Fresh s → step (run s cs) c .number ≡ refusalOf (accountOf s cs) (lentBy (s .storage)) c
 numbers = two.numbers
 
 -- "From a fresh builder on, used value bytes always equal the bytes of the scalars kept plus the headers closed"
-pub account : (s : State) (cs : List Call) → Fresh (s .builder) → run s cs .builder .counts .value ≡ total (accountOf s cs .sums)
+pub account : (s : State) (cs : List Call) → Fresh s → run s cs .builder .counts .value ≡ total (accountOf s cs .tallies)
 account = bytes.account
 
 -- The used count is the length of the value bytes, so that these are all there.
-pub used : (s : State) (cs : List Call) → Fresh (s .builder) → run s cs .builder .counts .value ≡ length (valueBytes (run s cs))
+pub used : (s : State) (cs : List Call) → Fresh s → run s cs .builder .counts .value ≡ length (valueBytes (run s cs))
 used = bytes.used
 
 -- 3 Faithful. For every two lists of calls, each finished from a fresh builder: value bytes and dictionary are equal exactly when

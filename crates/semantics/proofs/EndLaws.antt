@@ -14,10 +14,10 @@ use Rattle.value.specs.Scalar.{scalarBytes}
 use Rattle.metadata.specs.Names.{Name}
 use Rattle.container.proofs.EntryLaws.{fronted-behind}
 use Rattle.semantics.specs.declared.View.{View}
-use Rattle.semantics.specs.Record.{Storage, State, Scalars, scalarOf, Call, register, append, openIn, close, rollBack, uniqueness, finish, viewOf}
+use Rattle.semantics.specs.Record.{Storage, State, Scalars, scalarOf, Call, register, append, openIn, close, rollBack, uniqueness, setMark, returnTo, finish, viewAt}
 use Rattle.semantics.specs.Damage.{misread, badFloor, overUsed, unchained, grown}
 use Rattle.semantics.specs.Table.{header, numberOf}
-use Rattle.semantics.specs.Step.{step, after, registered, appended, opened, closed, rolledBack, finished, dictionaryOf}
+use Rattle.semantics.specs.Step.{step, after, registered, appended, opened, closed, rolledBack, returned, finished, dictionaryOf}
 use Rattle.semantics.proofs.Demand1.{append-at, none-at, number-leaves, step-number}
 use Rattle.semantics.proofs.StorageLaws.{drop-write}
 use Rattle.semantics.proofs.RunLaws.{step-done}
@@ -53,17 +53,20 @@ module _ (v : View) (l : Storage) where
 abbrev KeepsPast : State → State → Type 0
 KeepsPast t s = drop (t .builder .counts .value) (t .storage .value) ≡ drop (t .builder .counts .value) (s .storage .value)
 
-after-past : (s : State) (c : Call) → numberOf (viewOf (s .builder)) (s .storage) c ≡ 0 → KeepsPast (after s c) s
-unfolding after registered appended opened closed rolledBack finished
+after-past : (s : State) (c : Call) → numberOf (viewAt s) (s .storage) c ≡ 0 → KeepsPast (after s c) s
+unfolding after registered appended opened closed rolledBack returned finished
 after-past s (register n) k = refl
-after-past s (append nm x) k = drop-write (s .builder .counts .value) (scalarBytes (scalarOf x)) (s .storage .value) (omega (arith, append-room (viewOf (s .builder)) (s .storage) nm x k))
+after-past s (append nm x) k =
+    drop-write (s .builder .counts .value) (scalarBytes (scalarOf x)) (s .storage .value) (omega (arith, append-room (viewAt s) (s .storage) nm x k))
 after-past s (openIn nm b) k = refl
 after-past s close k =
-    let v = viewOf (s .builder) in
+    let v = viewAt s in
     let l = s .storage in
     fronted-behind (v .inner .value) (v .counts .value) (header v l) (l .value) (close-inside v l k) (close-room v l k)
 after-past s rollBack k = refl
 after-past s (uniqueness u) k = refl
+after-past s setMark k = refl
+after-past s (returnTo j) k = refl
 after-past s (finish out) k = refl
 
 pub past-end : (s : State) (c : Call) → KeepsPast (step s c .state) s
@@ -81,5 +84,7 @@ pub past-written : (s : State) (out : List ℕ) → drop (step s (finish out) .w
 past-written s out = go (eqb (step s (finish out) .number) 0) refl
   where
     go : (t : Bool) → eqb (step s (finish out) .number) 0 ≡ t → drop (step s (finish out) .written) (step s (finish out) .output) ≡ drop (step s (finish out) .written) out
-    go true p = rw (step-done s (finish out) (eqb-true (step s (finish out) .number) 0 p)) (rw zero-add at (drop-write 0 (dictionaryOf (viewOf (s .builder)) (s .storage)) out (omega arith)))
+    go true p =
+        rw (step-done s (finish out) (eqb-true (step s (finish out) .number) 0 p))
+        (rw zero-add at (drop-write 0 (dictionaryOf (viewAt s) (s .storage)) out (omega arith)))
     go false p = rw (number-leaves s (finish out) (eqb-false (step s (finish out) .number) 0 p) .1)

@@ -5,10 +5,10 @@ use mathlib.Core.Logic.{inl, inr, _≢_}
 use mathlib.Core.Bool.{Bool, true, false, cond, not, true≢false}
 use mathlib.Core.List.{List, [], _∷_, _++_, map, append-assoc, append-nil, head-eq-of-cons-eq, tail-eq-of-cons-eq}
 use mathlib.Core.Option.{Option, none, some}
-use Prim.Native.Nat.{ℕ, suc, _^_, _≤_, _<_}
+use Prim.Native.Nat.{ℕ, zero, suc, _-_, _^_, _≤_, _<_}
 use native.Mathlib.Omega.{arith}
 use lib.Dec.{leb, ltb}
-use lib.ListN.{length, length-append, length-map, length-replicate, length-take, replicate}
+use lib.ListN.{drop, length, length-append, length-map, length-replicate, length-take, replicate}
 use borrow.Author.Tests.{ltb-true, ltb-false}
 use Rattle.value.specs.declared.decoder.VariantPrimitiveType.the-variants as type
 use Rattle.value.specs.declared.variant.VariantBytes.{VariantBytes}
@@ -22,13 +22,13 @@ use Rattle.metadata.specs.Names.{Name, same, place}
 use Rattle.metadata.proofs.DictionaryLaws.{same-differs, place-low, place-added, Distinct, distinct-none, distinct-added, distinct-front}
 use Rattle.container.proofs.SortLaws.{Mem}
 use Rattle.semantics.specs.declared.View.{View}
-use Rattle.semantics.specs.Record.{State, Scalars, fixed, civil, packed, bytes, uuid, inObject, Call, register, append, openIn, close, rollBack, uniqueness, finish, scalarOf, sixteen}
-use Rattle.semantics.specs.Tree.{Mark, element, live, replaced, Tree, scalar, nest, Items, empty, item, encode}
-use Rattle.semantics.specs.History.{Level, History, noHistory, withName, unlive, replace, snoc, entered, enter, closeLevel, dropLevel, accepted, fed}
+use Rattle.semantics.specs.Record.{State, Scalars, fixed, civil, packed, bytes, uuid, inObject, Call, register, append, openIn, close, rollBack, uniqueness, setMark, returnTo, finish, scalarOf, sixteen}
+use Rattle.semantics.specs.Tree.{Label, element, live, replaced, Tree, scalar, nest, Items, empty, item, encode}
+use Rattle.semantics.specs.History.{Copy, Level, History, noHistory, withName, unlive, replace, snoc, entered, enter, closeLevel, dropLevel, markLevel, brought, returnLevel, accepted, fed}
 use Rattle.semantics.specs.Run.{refused, historyFrom, historyOf, kept}
 use Rattle.semantics.specs.Step.{step}
 use Rattle.semantics.specs.Table.{misnamed}
-use Rattle.semantics.proofs.TreeLaws.{NotLive, ApartFrom, Apart, ApartItems, Sound, Fits, Formed, FormedItems, HeldMark, Held, HeldItems, mark-grows, held-grows, items-grow}
+use Rattle.semantics.proofs.TreeLaws.{NotLive, ApartFrom, Apart, ApartItems, Sound, Fits, Formed, FormedItems, HeldLabel, Held, HeldItems, label-grows, held-grows, items-grow}
 
 -- ---- names that grow
 
@@ -62,7 +62,7 @@ with-distinct {ns} nm d = with-cases Distinct ns nm d (λ n e. distinct-added n 
 -- a name, if there is one, is held
 abbrev pub HeldName : List Name → Option Name → Type 0
 HeldName ns none = Unit {0}
-HeldName ns (some n) = HeldMark ns (live n)
+HeldName ns (some n) = HeldLabel ns (live n)
 
 pub with-held : (ns : List Name) (nm : Option Name) → HeldName (withName ns nm) nm
 unfolding withName
@@ -87,17 +87,36 @@ unfolding closeLevel
 close-names ns top [] = refl
 close-names ns top (l ∷ ls) = enter-names ns top ls _ _
 
-pub accepted-grows : (h : History) (c : Call) → c ≢ rollBack → Extends (h .names) (accepted h c .names)
+pub mark-names : (ns : List Name) (top : Option Tree) (ls : List Level) → markLevel ns top ls .names ≡ ns
+unfolding markLevel
+mark-names ns top [] = refl
+mark-names ns top (l ∷ ls) = refl
+
+-- a call that strikes nothing out
+abbrev pub Forward : Call → Type 0
+Forward (register n) = Unit {0}
+Forward (append nm v) = Unit {0}
+Forward (openIn nm k) = Unit {0}
+Forward close = Unit {0}
+Forward rollBack = ⊥
+Forward (uniqueness u) = Unit {0}
+Forward setMark = Unit {0}
+Forward (returnTo j) = ⊥
+Forward (finish out) = Unit {0}
+
+pub accepted-grows : (h : History) (c : Call) → Forward c → Extends (h .names) (accepted h c .names)
 unfolding accepted
 accepted-grows h (register n) d = with-extends (h .names) (some n)
 accepted-grows h (append nm v) d = rw enter-names (with-extends (h .names) nm)
 accepted-grows h (openIn nm k) d = with-extends (h .names) nm
 accepted-grows h close d = rw close-names (extends-same (h .names))
-accepted-grows h rollBack d = absurd (d refl)
+accepted-grows h rollBack d = absurd d
 accepted-grows h (uniqueness u) d = extends-same (h .names)
+accepted-grows h setMark d = rw mark-names (extends-same (h .names))
+accepted-grows h (returnTo j) d = absurd d
 accepted-grows h (finish out) d = extends-same (h .names)
 
-pub fed-grows : (h : History) (c : Call) (refused : Bool) → (refused ≡ false → c ≢ rollBack) → Extends (h .names) (fed h c refused .names)
+pub fed-grows : (h : History) (c : Call) (refused : Bool) → (refused ≡ false → Forward c) → Extends (h .names) (fed h c refused .names)
 unfolding fed
 fed-grows h c true d = extends-same (h .names)
 fed-grows h c false d = accepted-grows h c (d refl)
@@ -141,6 +160,21 @@ module _ {base : List (List Name)} (ns : List Name) (top : Option Tree) where
   drop-rests [] r h = r
   drop-rests (l ∷ ls) r h = pop l ls r h
 
+  mark-rests : (ls : List Level) → Rests base ls → Rests base (markLevel ns top ls .levels)
+  unfolding markLevel
+  mark-rests [] r = r
+  mark-rests (l ∷ ls) r = record { inner = r .inner; all = r .all }
+
+  brought-rests : (l : Level) (ls : List Level) (cs : List Copy) → Rests base (l ∷ ls) → Rests base (brought ns top l ls cs .levels)
+  unfolding brought
+  brought-rests l ls [] r = r
+  brought-rests l ls (c ∷ cs) r = record { inner = r .inner; all = r .all }
+
+  return-rests : (ls : List Level) (j : ℕ) → Rests base ls → Rests base (returnLevel ns top ls j .levels)
+  unfolding returnLevel
+  return-rests [] j r = r
+  return-rests (l ∷ ls) j r = brought-rests l ls (drop (length (l .marks) - j) (l .marks)) r
+
 pub accepted-rests : {base : List (List Name)} (h : History) (c : Call) → Rests base (h .levels) → length base ≤ length (accepted h c .levels) → Rests base (accepted h c .levels)
 unfolding accepted
 accepted-rests h (register n) r l = r
@@ -149,6 +183,8 @@ accepted-rests h (openIn nm k) r l = record { inner = h .names ∷ r .inner; all
 accepted-rests h close r l = close-rests (h .names) (h .top) (h .levels) r l
 accepted-rests h rollBack r l = drop-rests (h .names) (h .top) (h .levels) r l
 accepted-rests h (uniqueness u) r l = r
+accepted-rests h setMark r l = mark-rests (h .names) (h .top) (h .levels) r
+accepted-rests h (returnTo j) r l = return-rests (h .names) (h .top) (h .levels) j r
 accepted-rests h (finish out) r l = r
 
 pub fed-rests : {base : List (List Name)} (h : History) (c : Call) (refused : Bool) → Rests base (h .levels) → length base ≤ length (fed h c refused .levels) → Rests base (fed h c refused .levels)
@@ -174,7 +210,7 @@ roll-back-names {ns} {base} h r d = go (h .levels) (r .inner) (r .all) d
 -- ---- an open container's items
 
 -- a fact about a mark once n is live elsewhere
-unlive-cases : (P : Mark → Type 0) (n : Name) (m : Mark) → P replaced → (m ≢ live n → P m) → P (unlive n m)
+unlive-cases : (P : Label → Type 0) (n : Name) (m : Label) → P replaced → (m ≢ live n → P m) → P (unlive n m)
 unfolding unlive
 unlive-cases P n element a b = b (λ e. let z : _≡_ {A = ℕ} 0 1 = cc in omega arith)
 unlive-cases P n (live m) a b = go (same m n) refl
@@ -194,7 +230,7 @@ unfolding replace
 replace-not-live n k empty h = tt
 replace-not-live n k (item m t is) h = (unlive-cases (λ j. j ≢ live k) n m (λ e. let z : _≡_ {A = ℕ} 0 1 = cc in omega arith) (λ d. h .0), replace-not-live n k is (h .1))
 
-replace-apart-from : (n : Name) (m : Mark) (is : Items) → ApartFrom m is → ApartFrom m (replace n is)
+replace-apart-from : (n : Name) (m : Label) (is : Items) → ApartFrom m is → ApartFrom m (replace n is)
 replace-apart-from n element is h = h
 replace-apart-from n (live k) is h = replace-not-live n k is h
 replace-apart-from n replaced is h = h
@@ -207,7 +243,7 @@ replace-apart n (item m t is) h = (unlive-cases (λ j. ApartFrom j (replace n is
 replace-held : (ns : List Name) (n : Name) (is : Items) → HeldItems ns is → HeldItems ns (replace n is)
 unfolding replace
 replace-held ns n empty h = tt
-replace-held ns n (item m t is) h = (unlive-cases (λ j. HeldMark ns j) n m tt (λ d. h .0), h .1, replace-held ns n is (h .2))
+replace-held ns n (item m t is) h = (unlive-cases (λ j. HeldLabel ns j) n m tt (λ d. h .0), h .1, replace-held ns n is (h .2))
 
 replace-formed : (n : Name) (is : Items) → FormedItems true is → FormedItems true (replace n is)
 unfolding replace
@@ -215,42 +251,42 @@ replace-formed n empty h = tt
 replace-formed n (item m t is) h = (unlive-cases (λ j. Fits true j) n m tt (λ d. h .0), h .1, replace-formed n is (h .2))
 
 -- one item more
-snoc-not-live : (n : Name) (is : Items) (m : Mark) (t : Tree) → NotLive n is → m ≢ live n → NotLive n (snoc is m t)
+snoc-not-live : (n : Name) (is : Items) (m : Label) (t : Tree) → NotLive n is → m ≢ live n → NotLive n (snoc is m t)
 unfolding snoc
 snoc-not-live n empty m t h d = (d, tt)
 snoc-not-live n (item k u is) m t h d = (h .0, snoc-not-live n is m t (h .1) d)
 
-apart-other : (m : Mark) (n : Name) (t : Tree) (is : Items) → ApartFrom m (item (live n) t is) → m ≢ live n
+apart-other : (m : Label) (n : Name) (t : Tree) (is : Items) → ApartFrom m (item (live n) t is) → m ≢ live n
 apart-other element n t is h e = let z : _≡_ {A = ℕ} 0 1 = cc in omega arith
 apart-other (live k) n t is h e = h .0 (sym e)
 apart-other replaced n t is h e = let z : _≡_ {A = ℕ} 0 1 = cc in omega arith
 
-apart-rest : (m k : Mark) (t : Tree) (is : Items) → ApartFrom m (item k t is) → ApartFrom m is
+apart-rest : (m k : Label) (t : Tree) (is : Items) → ApartFrom m (item k t is) → ApartFrom m is
 apart-rest element k t is h = h
 apart-rest (live n) k t is h = h .1
 apart-rest replaced k t is h = h
 
-snoc-apart-from : (k m : Mark) (t u : Tree) (is : Items) → ApartFrom m (item k u is) → ApartFrom k is → ApartFrom k (snoc is m t)
+snoc-apart-from : (k m : Label) (t u : Tree) (is : Items) → ApartFrom m (item k u is) → ApartFrom k is → ApartFrom k (snoc is m t)
 snoc-apart-from element m t u is f h = h
 snoc-apart-from (live n) m t u is f h = snoc-not-live n is m t h (apart-other m n u is f)
 snoc-apart-from replaced m t u is f h = h
 
-snoc-apart : (is : Items) (m : Mark) (t : Tree) → ApartFrom m is → Apart t → ApartItems is → ApartItems (snoc is m t)
+snoc-apart : (is : Items) (m : Label) (t : Tree) → ApartFrom m is → Apart t → ApartItems is → ApartItems (snoc is m t)
 unfolding snoc
 snoc-apart empty m t f g h = (none-behind m, g, tt)
   where
-    none-behind : (m : Mark) → ApartFrom m empty
+    none-behind : (m : Label) → ApartFrom m empty
     none-behind element = tt
     none-behind (live n) = tt
     none-behind replaced = tt
 snoc-apart (item k u is) m t f g h = (snoc-apart-from k m t u is f (h .0), h .1, snoc-apart is m t (apart-rest m k u is f) g (h .2))
 
-snoc-held : (ns : List Name) (is : Items) (m : Mark) (t : Tree) → HeldMark ns m → Held ns t → HeldItems ns is → HeldItems ns (snoc is m t)
+snoc-held : (ns : List Name) (is : Items) (m : Label) (t : Tree) → HeldLabel ns m → Held ns t → HeldItems ns is → HeldItems ns (snoc is m t)
 unfolding snoc
 snoc-held ns empty m t f g h = (f, g, tt)
 snoc-held ns (item k u is) m t f g h = (h .0, h .1, snoc-held ns is m t f g (h .2))
 
-snoc-formed : (object : Bool) (is : Items) (m : Mark) (t : Tree) → Fits object m → Formed t → FormedItems object is → FormedItems object (snoc is m t)
+snoc-formed : (object : Bool) (is : Items) (m : Label) (t : Tree) → Fits object m → Formed t → FormedItems object is → FormedItems object (snoc is m t)
 unfolding snoc
 snoc-formed object empty m t f g h = (f, g, tt)
 snoc-formed object (item k u is) m t f g h = (h .0, h .1, snoc-formed object is m t f g (h .2))
@@ -290,12 +326,25 @@ abbrev pub ApartTop : Option Tree → Type 0
 ApartTop none = Unit {0}
 ApartTop (some t) = Apart t
 
+-- a mark's copy, of a container with that name that was opened at these names
+pub record Upheld (before : List Name) (own : Option Name) (c : Copy) : Type 0 where
+  pub grows : Extends (withName before own) (c .names)
+  pub held : HeldItems (c .names) (c .items)
+  pub apart : ApartItems (c .items)
+
+-- a container's copies, the latest first, where the names are ns: each one's names are a front of the later one's
+abbrev pub Copies : List Name → Option Name → List Name → List Copy → Type 0
+Copies before own ns [] = Unit {0}
+Copies before own ns (c ∷ cs) = Extends (c .names) ns × Upheld before own c × Copies before own (c .names) cs
+
 -- an open container, where the names are ns
 pub record Stands (ns : List Name) (l : Level) : Type 0 where
   pub extends : Extends (l .before) ns
+  pub grows : Extends (withName (l .before) (l .own)) ns
   pub ownHeld : HeldName ns (l .own)
   pub held : HeldItems ns (l .items)
   pub apart : ApartItems (l .items)
+  pub copies : Copies (l .before) (l .own) ns (l .marks)
 
 -- each by the names before the open of the one inside it
 abbrev pub Chained : List Name → Option Tree → List Level → Type 0
@@ -310,15 +359,34 @@ pub record Orderly (h : History) : Type 0 where
 -- names that are added
 pub name-grows : {ns ms : List Name} (nm : Option Name) → Extends ns ms → HeldName ns nm → HeldName ms nm
 name-grows none e h = tt
-name-grows {ns} (some n) e h = rw (e .grown) (mark-grows ns (e .more) (live n) h)
+name-grows {ns} (some n) e h = rw (e .grown) (label-grows ns (e .more) (live n) h)
 
 top-grows : {ns ms : List Name} (top : Option Tree) → Extends ns ms → HeldTop ns top → HeldTop ms top
 top-grows none e h = tt
 top-grows {ns} (some t) e h = rw (e .grown) (held-grows ns (e .more) t h)
 
+pub copies-grow : {ns ms : List Name} (before : List Name) (own : Option Name) (cs : List Copy) → Extends ns ms → Copies before own ns cs
+    → Copies before own ms cs
+copies-grow before own [] e h = tt
+copies-grow before own (c ∷ cs) e h = (extends-more (h .0) e, h .1, h .2)
+
+-- THE COPIES before the latest ones
+pub copies-drop : (before : List Name) (own : Option Name) (ns : List Name) (n : ℕ) (cs : List Copy) → Copies before own ns cs
+    → Copies before own ns (drop n cs)
+copies-drop before own ns zero cs h = h
+copies-drop before own ns (suc n) [] h = tt
+copies-drop before own ns (suc n) (c ∷ cs) h = copies-grow before own (drop n cs) (h .0) (copies-drop before own (c .names) n cs (h .2))
+
 stands-grows : {ns ms : List Name} {l : Level} → Extends ns ms → Stands ns l → Stands ms l
 stands-grows {ns} {ms} {l} e s =
-    record { extends = extends-more (s .extends) e; ownHeld = name-grows (l .own) e (s .ownHeld); held = rw (e .grown) (items-grow ns (e .more) (l .items) (s .held)); apart = s .apart }
+    record {
+      extends = extends-more (s .extends) e;
+      grows = extends-more (s .grows) e;
+      ownHeld = name-grows (l .own) e (s .ownHeld);
+      held = rw (e .grown) (items-grow ns (e .more) (l .items) (s .held));
+      apart = s .apart;
+      copies = copies-grow (l .before) (l .own) (l .marks) e (s .copies);
+    }
 
 pub chained-grows : {ns ms : List Name} (top : Option Tree) (ls : List Level) → Extends ns ms → Chained ns top ls → Chained ms top ls
 chained-grows top [] e h = top-grows top e h
@@ -343,7 +411,17 @@ module _ {ns : List Name} (top : Option Tree) (d : Distinct ns) (a : ApartTop to
       let s = h .0 in
       record {
         distinct = d;
-        chained = (record { extends = s .extends; ownHeld = s .ownHeld; held = entered-held ns nm t (l .items) f g (s .held); apart = entered-apart nm t (l .items) b (s .apart) }, h .1);
+        chained = (
+          record {
+            extends = s .extends;
+            grows = s .grows;
+            ownHeld = s .ownHeld;
+            held = entered-held ns nm t (l .items) f g (s .held);
+            apart = entered-apart nm t (l .items) b (s .apart);
+            copies = s .copies;
+          },
+          h .1,
+        );
         apartTop = a;
       }
 
@@ -361,6 +439,57 @@ module _ {ns : List Name} (top : Option Tree) (d : Distinct ns) (a : ApartTop to
       let e = h .0 .extends in
       record { distinct = distinct-front (l .before) (e .more) (rw (e .grown) at d); chained = h .1; apartTop = a }
 
+  mark-orderly : (ls : List Level) → Chained ns top ls → Orderly (markLevel ns top ls)
+  unfolding markLevel
+  mark-orderly [] h = record { distinct = d; chained = h; apartTop = a }
+  mark-orderly (l ∷ ls) h =
+      let s = h .0 in
+      record {
+        distinct = d;
+        chained = (
+          record {
+            extends = s .extends;
+            grows = s .grows;
+            ownHeld = s .ownHeld;
+            held = s .held;
+            apart = s .apart;
+            copies = (extends-same ns, record { grows = s .grows; held = s .held; apart = s .apart }, s .copies);
+          },
+          h .1,
+        );
+        apartTop = a;
+      }
+
+  brought-orderly : (l : Level) (ls : List Level) (cs : List Copy) → Copies (l .before) (l .own) ns cs → Chained ns top (l ∷ ls)
+      → Orderly (brought ns top l ls cs)
+  unfolding brought
+  brought-orderly l ls [] k h = record { distinct = d; chained = h; apartTop = a }
+  brought-orderly l ls (c ∷ cs) k h =
+      let e = k .0 in
+      let u = k .1 in
+      record {
+        distinct = distinct-front (c .names) (e .more) (rw (e .grown) at d);
+        chained = (
+          record {
+            extends = extends-more (with-extends (l .before) (l .own)) (u .grows);
+            grows = u .grows;
+            ownHeld = name-grows (l .own) (u .grows) (with-held (l .before) (l .own));
+            held = u .held;
+            apart = u .apart;
+            copies = (extends-same (c .names), u, k .2);
+          },
+          h .1,
+        );
+        apartTop = a;
+      }
+
+  return-orderly : (ls : List Level) (j : ℕ) → Chained ns top ls → Orderly (returnLevel ns top ls j)
+  unfolding returnLevel
+  return-orderly [] j h = record { distinct = d; chained = h; apartTop = a }
+  return-orderly (l ∷ ls) j h =
+      let n = length (l .marks) - j in
+      brought-orderly l ls (drop n (l .marks)) (copies-drop (l .before) (l .own) ns n (l .marks) (h .0 .copies)) h
+
 pub orderly-none : Orderly noHistory
 orderly-none = record { distinct = distinct-none; chained = tt; apartTop = tt }
 
@@ -374,12 +503,24 @@ accepted-orderly h (append nm v) o =
 accepted-orderly h (openIn nm k) o =
     record {
       distinct = with-distinct nm (o .distinct);
-      chained = (record { extends = with-extends (h .names) nm; ownHeld = with-held (h .names) nm; held = tt; apart = tt }, o .chained);
+      chained = (
+        record {
+          extends = with-extends (h .names) nm;
+          grows = extends-same (withName (h .names) nm);
+          ownHeld = with-held (h .names) nm;
+          held = tt;
+          apart = tt;
+          copies = tt;
+        },
+        o .chained,
+      );
       apartTop = o .apartTop;
     }
 accepted-orderly h close o = close-orderly (h .top) (o .distinct) (o .apartTop) (h .levels) (o .chained)
 accepted-orderly h rollBack o = drop-orderly (h .top) (o .distinct) (o .apartTop) (h .levels) (o .chained)
 accepted-orderly h (uniqueness u) o = o
+accepted-orderly h setMark o = mark-orderly (h .top) (o .distinct) (o .apartTop) (h .levels) (o .chained)
+accepted-orderly h (returnTo j) o = return-orderly (h .top) (o .distinct) (o .apartTop) (h .levels) j (o .chained)
 accepted-orderly h (finish out) o = o
 
 pub fed-orderly : (h : History) (c : Call) (refused : Bool) → Orderly h → Orderly (fed h c refused)
@@ -423,6 +564,8 @@ Suits h (openIn nm k) = Named (innerObject (h .levels)) nm
 Suits h close = Unit {0}
 Suits h rollBack = Unit {0}
 Suits h (uniqueness u) = Unit {0}
+Suits h setMark = Unit {0}
+Suits h (returnTo j) = Unit {0}
 Suits h (finish out) = Unit {0}
 
 -- row 5 of the table
@@ -464,9 +607,18 @@ abbrev pub FormedTop : Option Tree → Type 0
 FormedTop none = Unit {0}
 FormedTop (some t) = Formed t
 
+abbrev pub FormedCopies : Bool → List Copy → Type 0
+FormedCopies object [] = Unit {0}
+FormedCopies object (c ∷ cs) = FormedItems object (c .items) × FormedCopies object cs
+
+formed-drop : (object : Bool) (n : ℕ) (cs : List Copy) → FormedCopies object cs → FormedCopies object (drop n cs)
+formed-drop object zero cs h = h
+formed-drop object (suc n) [] h = tt
+formed-drop object (suc n) (c ∷ cs) h = formed-drop object n cs (h .1)
+
 abbrev pub FormedLevels : List Level → Type 0
 FormedLevels [] = Unit {0}
-FormedLevels (l ∷ ls) = FormedItems (l .object) (l .items) × Named (innerObject ls) (l .own) × FormedLevels ls
+FormedLevels (l ∷ ls) = FormedItems (l .object) (l .items) × Named (innerObject ls) (l .own) × FormedLevels ls × FormedCopies (l .object) (l .marks)
 
 pub record WellFormed (h : History) : Type 0 where
   pub formedTop : FormedTop (h .top)
@@ -479,7 +631,7 @@ module _ (ns : List Name) (top : Option Tree) (g : FormedTop top) where
   enter-formed : (ls : List Level) (nm : Option Name) (t : Tree) → Named (innerObject ls) nm → Formed t → FormedLevels ls → WellFormed (enter ns top ls nm t)
   unfolding enter
   enter-formed [] nm t n f h = record { formedTop = f; formedLevels = tt }
-  enter-formed (l ∷ ls) nm t n f h = record { formedTop = g; formedLevels = (entered-formed (l .object) nm t (l .items) n f (h .0), h .1, h .2) }
+  enter-formed (l ∷ ls) nm t n f h = record { formedTop = g; formedLevels = (entered-formed (l .object) nm t (l .items) n f (h .0), h .1, h .2, h .3) }
 
   close-formed : (ls : List Level) → FormedLevels ls → WellFormed (closeLevel ns top ls)
   unfolding closeLevel
@@ -491,14 +643,34 @@ module _ (ns : List Name) (top : Option Tree) (g : FormedTop top) where
   drop-formed [] h = record { formedTop = g; formedLevels = tt }
   drop-formed (l ∷ ls) h = record { formedTop = g; formedLevels = h .2 }
 
+  mark-formed : (ls : List Level) → FormedLevels ls → WellFormed (markLevel ns top ls)
+  unfolding markLevel
+  mark-formed [] h = record { formedTop = g; formedLevels = tt }
+  mark-formed (l ∷ ls) h = record { formedTop = g; formedLevels = (h .0, h .1, h .2, (h .0, h .3)) }
+
+  brought-formed : (l : Level) (ls : List Level) (cs : List Copy) → FormedCopies (l .object) cs → FormedLevels (l ∷ ls)
+      → WellFormed (brought ns top l ls cs)
+  unfolding brought
+  brought-formed l ls [] k h = record { formedTop = g; formedLevels = h }
+  brought-formed l ls (c ∷ cs) k h = record { formedTop = g; formedLevels = (k .0, h .1, h .2, k) }
+
+  return-formed : (ls : List Level) (j : ℕ) → FormedLevels ls → WellFormed (returnLevel ns top ls j)
+  unfolding returnLevel
+  return-formed [] j h = record { formedTop = g; formedLevels = tt }
+  return-formed (l ∷ ls) j h =
+      let n = length (l .marks) - j in
+      brought-formed l ls (drop n (l .marks)) (formed-drop (l .object) n (l .marks) (h .3)) h
+
 pub accepted-formed : (h : History) (c : Call) → Suits h c → WellFormed h → WellFormed (accepted h c)
 unfolding accepted
 accepted-formed h (register n) u w = record { formedTop = w .formedTop; formedLevels = w .formedLevels }
 accepted-formed h (append nm v) u w = enter-formed (withName (h .names) nm) (h .top) (w .formedTop) (h .levels) nm (scalar (scalarOf v)) (u .0) (u .1) (w .formedLevels)
-accepted-formed h (openIn nm k) u w = record { formedTop = w .formedTop; formedLevels = (tt, u, w .formedLevels) }
+accepted-formed h (openIn nm k) u w = record { formedTop = w .formedTop; formedLevels = (tt, u, w .formedLevels, tt) }
 accepted-formed h close u w = close-formed (h .names) (h .top) (w .formedTop) (h .levels) (w .formedLevels)
 accepted-formed h rollBack u w = drop-formed (h .names) (h .top) (w .formedTop) (h .levels) (w .formedLevels)
 accepted-formed h (uniqueness b) u w = w
+accepted-formed h setMark u w = mark-formed (h .names) (h .top) (w .formedTop) (h .levels) (w .formedLevels)
+accepted-formed h (returnTo j) u w = return-formed (h .names) (h .top) (w .formedTop) (h .levels) j (w .formedLevels)
 accepted-formed h (finish out) u w = w
 
 pub fed-formed : (h : History) (c : Call) (refused : Bool) → (refused ≡ false → Suits h c) → WellFormed h → WellFormed (fed h c refused)

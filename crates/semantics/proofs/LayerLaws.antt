@@ -24,13 +24,13 @@ use Rattle.measure.specs.Measure.{measured, startsIn, wholeValues}
 use Rattle.semantics.specs.declared.ParentEntry.{ParentEntry}
 use Rattle.semantics.specs.declared.ParentEntry.the-variants.{New, Replaced}
 use Rattle.semantics.specs.Damage.{orphaned}
-use Rattle.semantics.specs.Tree.{Mark, element, live, replaced, Tree, nest, Items, empty, item, dataOf, startsFrom, withField, fieldsFrom, listBytes, objectBytes, encode, partsOf}
+use Rattle.semantics.specs.Tree.{Label, element, live, replaced, Tree, nest, Items, empty, item, dataOf, startsFrom, withField, fieldsFrom, listBytes, objectBytes, encode, partsOf}
 use Rattle.semantics.specs.History.{unlive, replace, snoc, entered}
 use Rattle.semantics.specs.Ledger.{itemCount, liveIds, isLive, ownEntry}
-use Rattle.semantics.proofs.TreeLaws.{FormedItems, HeldMark, HeldItems, ApartItems, fields-placed, fields-apart, place-inj, parts-grow, fields-grow}
+use Rattle.semantics.proofs.TreeLaws.{FormedItems, HeldLabel, HeldItems, ApartItems, fields-placed, fields-apart, place-inj, parts-grow, fields-grow}
 use Rattle.semantics.proofs.TreeValues.{items-low, items-whole, items-starts}
 use Rattle.semantics.proofs.HistoryLaws.{Extends, HeldName, Named}
-use Rattle.semantics.proofs.Machine.{put, find, noteIn, linkIn, headerOf}
+use Rattle.semantics.proofs.Machine.{put, find, noteIn, linkIn, recordOf, headerOf}
 
 -- ---- an entry put among others, and how it came about
 
@@ -129,24 +129,24 @@ placed-grows h k p = record { within = omega (arith, p .within); held = omega (a
 
 -- ---- an item goes last
 
-count-snoc : (is : Items) (m : Mark) (t : Tree) → itemCount (snoc is m t) ≡ itemCount is + 1
+count-snoc : (is : Items) (m : Label) (t : Tree) → itemCount (snoc is m t) ≡ itemCount is + 1
 unfolding itemCount snoc
 count-snoc empty m t = refl
 count-snoc (item k u is) m t = omega (arith, count-snoc is m t)
 
-field-behind : (ns : List Name) (at : ℕ) (m : Mark) (es fs : List Entry) → withField ns at m (es ++ fs) ≡ withField ns at m es ++ fs
+field-behind : (ns : List Name) (at : ℕ) (m : Label) (es fs : List Entry) → withField ns at m (es ++ fs) ≡ withField ns at m es ++ fs
 unfolding withField
 field-behind ns at element es fs = refl
 field-behind ns at (live n) es fs = refl
 field-behind ns at replaced es fs = refl
 
 module _ (floor : ℕ) (ns : List Name) where
-  data-snoc : (is : Items) (m : Mark) (t : Tree) → dataOf (partsOf floor ns (snoc is m t)) ≡ dataOf (partsOf floor ns is) ++ encode floor ns t
+  data-snoc : (is : Items) (m : Label) (t : Tree) → dataOf (partsOf floor ns (snoc is m t)) ≡ dataOf (partsOf floor ns is) ++ encode floor ns t
   unfolding partsOf snoc dataOf
   data-snoc empty m t = append-nil (encode floor ns t)
   data-snoc (item k u is) m t = ap (λ b. encode floor ns u ++ b) (data-snoc is m t) ∙ sym (append-assoc (encode floor ns u) (dataOf (partsOf floor ns is)) (encode floor ns t))
 
-  fields-snoc : (at : ℕ) (is : Items) (m : Mark) (t : Tree)
+  fields-snoc : (at : ℕ) (is : Items) (m : Label) (t : Tree)
       → fieldsFrom ns at (partsOf floor ns (snoc is m t)) ≡ fieldsFrom ns at (partsOf floor ns is) ++ withField ns (at + length (dataOf (partsOf floor ns is))) m []
   unfolding partsOf snoc fieldsFrom dataOf
   fields-snoc at empty m t = ap (λ n. withField ns n m []) (sym (add-zero at))
@@ -166,7 +166,7 @@ abbrev Without : ℕ → List Entry → List Entry → Type 0
 Without i es fs = (x : Entry) → (Mem x fs → Mem x es × (x .id ≢ i)) × (Mem x es → x .id ≢ i → Mem x fs)
 
 module _ (ns : List Name) (n : Name) (held : place n ns < length ns) where
-  field-without : (at : ℕ) (m : Mark) (es fs : List Entry) → HeldMark ns m → Without (place n ns) es fs
+  field-without : (at : ℕ) (m : Label) (es fs : List Entry) → HeldLabel ns m → Without (place n ns) es fs
       → Without (place n ns) (withField ns at m es) (withField ns at (unlive n m) fs)
   unfolding withField unlive
   field-without at element es fs h w x = w x
@@ -341,7 +341,7 @@ unfolding startsIn
 starts-count zero at bs = refl
 starts-count (suc n) at bs = ap suc (starts-count n (at + measured bs) (drop (measured bs) bs))
 
-put-count : (i o : ℕ) (es : List Entry) → length (put i o es) ≡ cond (hasId i es) 0 1 + length es
+pub put-count : (i o : ℕ) (es : List Entry) → length (put i o es) ≡ cond (hasId i es) 0 1 + length es
 put-count i o es = put-cases (λ es fs p t. length fs ≡ cond t 0 1 + length es) i o es refl (λ e es p. sym (zero-add (suc (length es)))) (λ e es p h. omega arith)
 
 -- ---- what a layer tells of its entries and elements
@@ -413,6 +413,35 @@ module _ {floor : ℕ} {ns : List Name} {is : Items} {seg : List Entry} {count :
   note-count true (some x) o n k l =
       let a : hasId (place x ns) seg ≡ isLive x is = ap (λ t. t && hasId (place x ns) seg) (sym (lt-ltb (place x ns) (length ns) k)) ∙ layer-live l x in
       put-count (place x ns) o seg ∙ ap (λ t. cond t 0 1 + length seg) a
+
+-- one record where a live name is replaced and a mark is set
+abbrev pub liveItem : Option Name → Items → Bool
+liveItem none is = false
+liveItem (some x) is = isLive x is
+
+find-record : (n i : ℕ) (es : List Entry) → length (recordOf (suc n) (find i es)) ≡ cond (hasId i es) 1 0
+unfolding recordOf
+find-record n i es = put-cases (λ es fs p t. length (recordOf (suc n) p) ≡ cond t 1 0) i 0 es refl (λ e es p. refl) (λ e es p h. h)
+
+module _ {floor : ℕ} {ns : List Name} {is : Items} {seg : List Entry} {count : ℕ} {bs : List ℕ} (h : HeldItems ns is) where
+  pub record-count : (object : Bool) (nm : Option Name) (n : ℕ) → Named object nm → HeldName ns nm → Layer floor ns object is seg count bs
+      → length (recordOf n (linkIn ns nm seg)) ≡ cond (liveItem nm is && ltb 0 n) 1 0
+  unfolding recordOf linkIn
+  record-count object nm zero g k l = sym (never (liveItem nm is))
+    where
+      never : (t : Bool) → _≡_ {A = ℕ} (cond (t && ltb 0 0) 1 0) 0
+      never true = refl
+      never false = refl
+  record-count object none (suc n) g k l = refl
+  record-count false (some x) (suc n) g k l = absurd g
+  record-count true (some x) (suc n) g k l =
+      let a : hasId (place x ns) seg ≡ isLive x is = ap (λ t. t && hasId (place x ns) seg) (sym (lt-ltb (place x ns) (length ns) k)) ∙ layer-live h l x in
+      let b : ltb 0 (suc n) ≡ true = lt-ltb 0 (suc n) (omega arith) in
+      find-record n (place x ns) seg ∙ (ap (λ t. cond t 1 0) a ∙ rw b (sym (always (isLive x is))))
+    where
+      always : (t : Bool) → _≡_ {A = ℕ} (cond (t && true) 1 0) (cond t 1 0)
+      always true = refl
+      always false = refl
 
 -- ---- a note is undone
 

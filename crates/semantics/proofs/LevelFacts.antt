@@ -3,13 +3,13 @@ use mathlib.Core.Path.{_≡_, refl, sym, _∙_, ap}
 use mathlib.Core.Bool.{Bool, true, false, cond, not, _&&_, _||_}
 use mathlib.Core.List.{List, [], _∷_, _++_, append-assoc}
 use mathlib.Core.Option.{Option, none, some}
-use Prim.Native.Nat.{ℕ, suc, _+_, _-_, _^_, _≤_, _<_}
+use Prim.Native.Nat.{ℕ, zero, suc, _+_, _-_, _^_, _≤_, _<_}
 use native.Mathlib.Nat.{add-zero}
 use native.Mathlib.Omega.{arith}
-use lib.Dec.{leb, ltb}
+use lib.Dec.{eqb, leb, ltb}
 use lib.Seq.{take-at, drop-at}
 use lib.ListN.{drop, take, length, length-append}
-use borrow.Author.Tests.{le-leb}
+use borrow.Author.Tests.{le-leb, lt-ltb, ne-eqb}
 use Rattle.metadata.specs.Names.{Name, place}
 use Rattle.metadata.specs.Bytes.{joined}
 use Rattle.metadata.proofs.DictionaryLaws.{Distinct, distinct-front}
@@ -18,16 +18,21 @@ use Rattle.container.specs.Entries.{misplaced, seek}
 use Rattle.container.proofs.SortLaws.{Mem}
 use Rattle.measure.specs.Measure.{wholeValues}
 use Rattle.semantics.specs.declared.Container.{Container}
-use Rattle.semantics.specs.Damage.{orphaned}
 use Rattle.semantics.specs.Tree.{element, live, replaced, Tree, Items, empty, item}
-use Rattle.semantics.specs.History.{Level}
-use Rattle.semantics.specs.Ledger.{liveIds, isLive, total, innerSum, headerSize, markNow, liveIn, entryCount, ownEntry, entriesUsed}
+use Rattle.semantics.specs.declared.Mark.{Mark}
+use Rattle.semantics.specs.declared.ParentEntry.{ParentEntry}
+use Rattle.semantics.specs.declared.ParentEntry.the-variants.{New, Replaced}
+use Rattle.semantics.specs.Record.{markAtStart}
+use Rattle.semantics.specs.Damage.{orphaned, replacing, unrecorded}
+use Rattle.semantics.specs.History.{Copy, Level}
+use Rattle.semantics.specs.Ledger.{Tally, Tallied, liveIds, isLive, total, innerSum, headerSize, uniqueIn, liveIn, marksIn, entryCount, ownEntry, entriesUsed, ownUndo, undosUsed}
 use Rattle.semantics.specs.Ledger as ledger
 use Rattle.semantics.proofs.TreeLaws.{FormedItems, HeldItems, items-grow}
-use Rattle.semantics.proofs.HistoryLaws.{Extends, HeldName, Named, Chained, innerObject, with-extends, with-held, FormedLevels}
-use Rattle.semantics.proofs.Machine.{Machine, noteIn, linkIn, note, linkOf, firstOf, restOf, oneMore, headerOf, anyOpen, objectInner, uniqueAt, liveAt, headerAt, Rising, Counting, InnerPlaced, ParentPlaced}
-use Rattle.semantics.proofs.LayerLaws.{Layer, layer-grows, layer-placed, layer-live, layer-count, layer-header, layer-whole, layer-low, note-count, Placed, all-placed, placed-grows, note-placed, list-owned, note-owned}
-use Rattle.semantics.proofs.LevelLaws.{Used, Levels, ownNames, noted, front-entries, own-entries, own-bytes, own-size, names-roll}
+use Rattle.semantics.proofs.HistoryLaws.{Extends, extends-same, extends-more, HeldName, Named, Chained, innerObject, with-extends, with-held, FormedLevels}
+use Rattle.semantics.proofs.Machine.{Machine, noteIn, linkIn, note, linkOf, recordOf, marksAt, logged, firstOf, restOf, oneMore, headerOf, anyOpen, objectInner, uniqueAt, liveAt, headerAt, Rising, withCount, NotAbove, Falling, AllFalling, Counting, Texts, InnerTexts, InnerPlaced, ParentPlaced}
+use Rattle.semantics.proofs.LayerLaws.{Layer, layer-grows, layer-placed, layer-live, layer-count, layer-header, layer-whole, layer-low, note-count, record-count, Placed, all-placed, placed-grows, note-placed, list-owned, note-owned}
+use Rattle.semantics.proofs.MarkLaws.{Stand, standOf, Start, Marks, marks-lengths}
+use Rattle.semantics.proofs.LevelLaws.{Used, Levels, ownNames, noted, loggedBy, startOf, live-item, no-undo, front-entries, own-entries, own-bytes, own-size, names-roll}
 
 held-extends : {ns ms : List Name} (is : Items) → Extends ns ms → HeldItems ns is → HeldItems ms is
 held-extends {ns} is e h = rw (e .grown) (items-grow ns (e .more) is h)
@@ -38,13 +43,15 @@ distinct-before {ns} e d = distinct-front ns (e .more) (rw (e .grown) at d)
 -- ---- counts
 
 -- the bytes are the ledger's total
-pub levels-total : (floor : ℕ) (top : Option Tree) (u : Bool) (ls : List Level) (ks : List Container) (ns : List Name) (s : Used) → Levels floor top u ls ks ns s → length (s .bytes) ≡ total (s .sums)
+pub levels-total : (floor : ℕ) (top : Option Tree) (u : Bool) (ls : List Level) (ks : List Container) (ns : List Name) (s : Used)
+    → Levels floor top u ls ks ns s → length (s .bytes) ≡ total (s .tallies)
 unfolding total
-levels-total floor top u [] [] ns s x = rw (x .sumsAre) (omega arith)
+levels-total floor top u [] [] ns s x = rw (x .talliesAre) (omega arith)
 levels-total floor top u [] (k ∷ ks) ns s x = absurd x
 levels-total floor top u (l ∷ ls) [] ns s x = absurd x
 levels-total floor top u (l ∷ ls) (k ∷ ks) ns s x =
-    rw (x .sumsAre) (omega (arith, ap length (x .bytesAre), length-append (x .outer .bytes) (x .body), levels-total floor top u ls ks (l .before) (x .outer) (x .under)))
+    rw (x .talliesAre)
+    (omega (arith, ap length (x .bytesAre), length-append (x .outer .bytes) (x .body), levels-total floor top u ls ks (l .before) (x .outer) (x .under)))
 
 live-count : (ns ms : List Name) (is : Items) → length (liveIds ns is) ≡ length (liveIds ms is)
 unfolding liveIds
@@ -103,6 +110,49 @@ levels-used floor top u (l ∷ ls) (k ∷ ks) ns s d f c x =
     sum [] = omega arith
     sum (p ∷ ls) = refl
 
+-- the marks are as many as the history's
+pub levels-marks : (floor : ℕ) (top : Option Tree) (u : Bool) (ls : List Level) (ks : List Container) (ns : List Name) (s : Used)
+    → Levels floor top u ls ks ns s → marksAt ks ≡ marksIn ls
+levels-marks floor top u [] [] ns s x = refl
+levels-marks floor top u [] (k ∷ ks) ns s x = absurd x
+levels-marks floor top u (l ∷ ls) [] ns s x = absurd x
+levels-marks floor top u (l ∷ ls) (k ∷ ks) ns s x =
+    x .marksAre ∙ sym
+    (marks-lengths floor (l .object) (startOf l k) (l .marks) (x .chain) (x .told) (standOf ns (x .seg) (x .body) (x .own) (x .count)) (x .marks) .0)
+
+-- the record that a value takes in the innermost
+undo-count : (floor : ℕ) (top : Option Tree) (u : Bool) (ls : List Level) (ks : List Container) (ns ms : List Name) (s : Used) (nm : Option Name)
+    → Extends ns ms → HeldName ms nm → Named (innerObject ls) nm
+    → Chained ns top ls → Levels floor top u ls ks ns s → length (recordOf (marksAt ks) (linkOf ms ks nm (s .entries))) ≡ ownUndo nm ls
+unfolding linkOf recordOf ownUndo
+undo-count floor top u [] [] ns ms s nm e h n c x = sym (no-undo nm)
+undo-count floor top u [] (k ∷ ks) ns ms s nm e h n c x = absurd x
+undo-count floor top u (l ∷ ls) [] ns ms s nm e h n c x = absurd x
+undo-count floor top u (l ∷ ls) (k ∷ ks) ns ms s nm e h n c x =
+    let g = own-entries x in
+    let held = c .0 .held in
+    let count = levels-marks floor top u (l ∷ ls) (k ∷ ks) ns s x in
+    ap (λ z. length (recordOf (k .marks) (linkIn ms nm z))) g
+    ∙ (record-count (held-extends (l .items) e held) (l .object) nm (k .marks) n h (layer-grows (l .object) (l .items) e held (x .layer))
+    ∙ sym (λ i. cond (live-item nm l ls i && ltb 0 (sym count i)) 1 0))
+
+-- the undo records are as many as the ledger counts
+pub levels-undos : (floor : ℕ) (top : Option Tree) (u : Bool) (ls : List Level) (ks : List Container) (ns : List Name) (s : Used) → FormedLevels ls
+    → Chained ns top ls
+    → Levels floor top u ls ks ns s → length (s .undos) ≡ undosUsed (s .tallies) ls
+unfolding undosUsed logged
+levels-undos floor top u [] [] ns s f c x = rw (x .talliesAre) (ap length (x .undosAre))
+levels-undos floor top u [] (k ∷ ks) ns s f c x = absurd x
+levels-undos floor top u (l ∷ ls) [] ns s f c x = absurd x
+levels-undos floor top u (l ∷ ls) (k ∷ ks) ns s f c x =
+    let own =
+    undo-count floor top u ls ks (l .before) (ownNames l) (x .outer) (l .own) (with-extends (l .before) (l .own)) (with-held (l .before) (l .own))
+    (f .1) (c .1) (x .under) in
+    let rest = levels-undos floor top u ls ks (l .before) (x .outer) (f .2) (c .1) (x .under) in
+    let r = recordOf (marksAt ks) (linkOf (ownNames l) ks (l .own) (x .outer .entries)) in
+    rw (x .talliesAre)
+    (omega (arith, ap length (x .undosAre), length-append (x .outer .undos ++ r) (x .own), length-append (x .outer .undos) r, own, rest))
+
 -- ---- the rows' tests, where the machine has these names, bytes and entries
 
 -- whether a container is open
@@ -126,17 +176,18 @@ levels-depth floor top u [] (k ∷ ks) ns s x = absurd x
 levels-depth floor top u (l ∷ ls) [] ns s x = absurd x
 levels-depth floor top u (l ∷ ls) (k ∷ ks) ns s x = ap (λ n. suc n) (levels-depth floor top u ls ks (l .before) (x .outer) (x .under))
 
-module _ (m : Machine) (sums : List ℕ) (marks : List Bool) where
+module _ (m : Machine) (ts : List Tallied) where
   -- what the machine uses
   abbrev pub usedBy : Used
-  usedBy = record { bytes = m .bytes; entries = m .entries; elements = m .elements; sums = sums; marks = marks }
+  usedBy = record { bytes = m .bytes; entries = m .entries; elements = m .elements; undos = m .undos; chains = m .chains; tallies = ts }
 
   -- the uniqueness mark in force
-  pub levels-unique : (floor : ℕ) (top : Option Tree) (ls : List Level) (ks : List Container) → Levels floor top (m .unique) ls ks (m .names) usedBy → uniqueAt m ks ≡ markNow marks
-  levels-unique floor top [] [] x = rw (x .marksAre)
+  pub levels-unique : (floor : ℕ) (top : Option Tree) (ls : List Level) (ks : List Container) → Levels floor top (m .unique) ls ks (m .names) usedBy
+      → uniqueAt m ks ≡ uniqueIn ts
+  levels-unique floor top [] [] x = rw (x .talliesAre)
   levels-unique floor top [] (k ∷ ks) x = absurd x
   levels-unique floor top (l ∷ ls) [] x = absurd x
-  levels-unique floor top (l ∷ ls) (k ∷ ks) x = rw (x .marksAre)
+  levels-unique floor top (l ∷ ls) (k ∷ ks) x = rw (x .talliesAre)
 
   -- whether a name is live in the innermost, where row 5 does not hold
   pub levels-live : (floor : ℕ) (top : Option Tree) (u : Bool) (ls : List Level) (ks : List Container) (nm : Option Name) → Named (innerObject ls) nm → Chained (m .names) top ls
@@ -156,7 +207,7 @@ module _ (m : Machine) (sums : List ℕ) (marks : List Bool) where
 
   -- the innermost's header has the ledger's size
   pub levels-header : (top : Option Tree) (u : Bool) (ls : List Level) (ks : List Container) → Distinct (m .names) → Chained (m .names) top ls → Levels (m .floor) top u ls ks (m .names) usedBy
-      → length (headerAt m ks) ≡ headerSize (m .floor) (m .names) ls (innerSum sums)
+      → length (headerAt m ks) ≡ headerSize (m .floor) (m .names) ls (innerSum ts)
   unfolding headerSize
   levels-header top u [] [] d c x = refl
   levels-header top u [] (k ∷ ks) d c x = absurd x
@@ -166,7 +217,7 @@ module _ (m : Machine) (sums : List ℕ) (marks : List Bool) where
       let o = own-bytes x in
       let b = x .opened .object in
       let w = x .elementsAre in
-      let p : innerSum sums ≡ length (x .body) = ap innerSum (x .sumsAre) in
+      let p : innerSum ts ≡ length (x .body) = ap innerSum (x .talliesAre) in
       ap length (λ i. headerOf (m .floor) (m .names) (b i) (firstOf 0 (w i)) (g i) (o i)) ∙ (layer-header (c .0 .held) (l .object) d (c .0 .apart) (x .layer) ∙ ap (headerSize (m .floor) (m .names) (l ∷ ls)) (sym p))
 
   -- ---- orderly
@@ -227,13 +278,174 @@ unfolding joined
 joined-append [] ms = refl
 joined-append (n ∷ ns) ms = ap (λ z. n ++ z) (joined-append ns ms) ∙ sym (append-assoc n (joined ns) (joined ms))
 
+logged-longer : (ns : List Name) (ks : List Container) (nm : Option Name) (es us : List Entry) → length us ≤ length (logged ns ks nm es us)
+unfolding logged
+logged-longer ns ks nm es us = omega (arith, length-append us (recordOf (marksAt ks) (linkOf ns ks nm es)))
+
+-- ---- the marks lie between the starting marks and the used counts
+
+extends-longer : {ns ms : List Name} → Extends ns ms → (length ns ≤ length ms) × (length (joined ns) ≤ length (joined ms))
+extends-longer {ns} {ms} e = (
+  omega (arith, ap length (e .grown), length-append ns (e .more)),
+  omega (arith, ap (λ z. length (joined z)) (e .grown) ∙ (ap length (joined-append ns (e .more)) ∙ length-append (joined ns) (joined (e .more)))),
+)
+
+-- the count of a list is not above another; an object's is free
+low : (object : Bool) (a b : ℕ) → a ≤ b → (object || leb a b) ≡ true
+low true a b h = refl
+low false a b h = le-leb a b h
+
+-- what stands is not above the mark
+pub record Reaches (k : Container) (now : Stand) (p : Mark) : Type 0 where
+  pub value : k .value + length (now .body) ≤ p .value
+  pub names : length (now .names) ≤ p .names
+  pub text : length (joined (now .names)) ≤ p .text
+  pub entries : k .entries + length (now .seg) ≤ p .entries
+  pub undo : k .undo + length (now .own) ≤ p .undo
+  pub count : now .count ≤ p .count
+
+module _ (floor : ℕ) (object : Bool) (l : Level) (k : Container) (sn : k .names ≤ length (ownNames l)) (st : k .text ≤ length (joined (ownNames l))) where
+  marks-falling : (kind : Bool) (cs : List Copy) (ps : List Mark) (ts : List Tally) (now : Stand) (above : Mark) → Extends (ownNames l) (now .names)
+      → Reaches k now above → Marks floor object (startOf l k) cs ps ts now → Falling kind (markAtStart k) ps above
+  marks-falling kind [] [] [] now above g r x =
+      let e = extends-longer g in (
+        omega (arith, r .value),
+        omega (arith, sn, e .0, r .names),
+        omega (arith, st, e .1, r .text),
+        omega (arith, r .entries),
+        omega (arith, r .undo),
+        low kind 0 (above .count) (omega arith),
+      )
+  marks-falling kind (c ∷ cs) (p ∷ ps) (q ∷ ts) now above g r x =
+      let e = extends-longer (x .since .names) in
+      let z = x .then in
+      let b : length (now .body) ≡ length (z .body) + length (x .since .more) = ap length (x .since .body) ∙ length-append (z .body) (x .since .more) in
+      let o : length (now .own) ≡ length (z .own) + length (x .since .records) = ap length (x .since .own) ∙ length-append (z .own) (x .since .records) in
+      let reaches : Reaches k z p =
+      record {
+        value = omega (arith, x .value);
+        names = omega (arith, x .names);
+        text = omega (arith, x .text);
+        entries = omega (arith, x .entries);
+        undo = omega (arith, x .undo);
+        count = omega (arith, x .count);
+      } in
+      let first : NotAbove kind p above = (
+        omega (arith, x .value, b, r .value),
+        omega (arith, x .names, e .0, r .names),
+        omega (arith, x .text, e .1, r .text),
+        omega (arith, x .entries, x .since .back .fewer, r .entries),
+        omega (arith, x .undo, o, r .undo),
+        low kind (p .count) (above .count) (omega (arith, x .count, x .since .fewer, r .count)),
+      ) in
+      (first, marks-falling kind cs ps ts z p (x .grows) reaches (x .rest))
+  marks-falling kind [] [] (q ∷ ts) now above g r x = absurd x
+  marks-falling kind [] (p ∷ ps) [] now above g r x = absurd x
+  marks-falling kind [] (p ∷ ps) (q ∷ ts) now above g r x = absurd x
+  marks-falling kind (c ∷ cs) [] [] now above g r x = absurd x
+  marks-falling kind (c ∷ cs) [] (q ∷ ts) now above g r x = absurd x
+  marks-falling kind (c ∷ cs) (p ∷ ps) [] now above g r x = absurd x
+
+marks-texts : (floor : ℕ) (object : Bool) (start : Start) (cs : List Copy) (ps : List Mark) (ts : List Tally) (now : Stand) (ns : List Name)
+    → Extends (now .names) ns → Marks floor object start cs ps ts now
+    → Texts ps ns
+marks-texts floor object start [] [] [] now ns g x = tt
+marks-texts floor object start (c ∷ cs) (p ∷ ps) (t ∷ ts) now ns g x =
+    let e = extends-more (x .since .names) g in
+    let q : take (p .names) ns ≡ x .then .names = ap (take (p .names)) (e .grown) ∙ take-at (x .then .names) (e .more) (p .names) (sym (x .names)) in
+    (x .text ∙ ap (λ z. length (joined z)) (sym q), marks-texts floor object start cs ps ts (x .then) ns e (x .rest))
+marks-texts floor object start [] [] (t ∷ ts) now ns g x = absurd x
+marks-texts floor object start [] (p ∷ ps) [] now ns g x = absurd x
+marks-texts floor object start [] (p ∷ ps) (t ∷ ts) now ns g x = absurd x
+marks-texts floor object start (c ∷ cs) [] [] now ns g x = absurd x
+marks-texts floor object start (c ∷ cs) [] (t ∷ ts) now ns g x = absurd x
+marks-texts floor object start (c ∷ cs) (p ∷ ps) [] now ns g x = absurd x
+
+pub levels-texts : (floor : ℕ) (top : Option Tree) (u : Bool) (ls : List Level) (ks : List Container) (ns : List Name) (s : Used)
+    → Levels floor top u ls ks ns s → InnerTexts (s .chains) ns
+levels-texts floor top u [] [] ns s x = rw (x .chainsAre) tt
+levels-texts floor top u [] (k ∷ ks) ns s x = absurd x
+levels-texts floor top u (l ∷ ls) [] ns s x = absurd x
+levels-texts floor top u (l ∷ ls) (k ∷ ks) ns s x =
+    let now = standOf ns (x .seg) (x .body) (x .own) (x .count) in
+    rw (x .chainsAre) (marks-texts floor (l .object) (startOf l k) (l .marks) (x .chain) (x .told) now ns (extends-same ns) (x .marks))
+
+-- all that is used is not above the mark
+pub record Within (ns : List Name) (s : Used) (p : Mark) : Type 0 where
+  pub value : length (s .bytes) ≤ p .value
+  pub names : length ns ≤ p .names
+  pub text : length (joined ns) ≤ p .text
+  pub entries : length (s .entries) ≤ p .entries
+  pub undo : length (s .undos) ≤ p .undo
+
+-- so in all containers, with a child open in the innermost or without one
+pub levels-falling : (floor : ℕ) (top : Option Tree) (u : Bool) (ls : List Level) (ks : List Container) (ns : List Name) (s : Used)
+    (child : Bool) (now : Mark) → Within ns s now → FormedLevels ls
+    → Chained ns top ls → Levels floor top u ls ks ns s → AllFalling ks (s .chains) (cond child (oneMore ks (s .elements)) (s .elements)) now
+unfolding oneMore
+levels-falling floor top u [] [] ns s child now w f c x = rw (x .chainsAre) tt
+levels-falling floor top u [] (k ∷ ks) ns s child now w f c x = absurd x
+levels-falling floor top u (l ∷ ls) [] ns s child now w f c x = absurd x
+levels-falling floor top u (l ∷ ls) (k ∷ ks) ns s child now w f c x =
+    let g = extends-longer (c .0 .extends) in
+    let own =
+    noted-count floor top u ls ks (l .before) (ownNames l) (x .outer) (l .own) (length (x .outer .bytes)) (with-extends (l .before) (l .own))
+    (with-held (l .before) (l .own)) (f .1) (c .1) (x .under) in
+    let b = ap length (x .bytesAre) ∙ length-append (x .outer .bytes) (x .body) in
+    let a = ap length (x .entriesAre) ∙ length-append (noted l ks (x .outer)) (x .seg) in
+    let d = ap length (x .undosAre) ∙ length-append (loggedBy l ks (x .outer)) (x .own) in
+    let m = logged-longer (ownNames l) ks (l .own) (x .outer .entries) (x .outer .undos) in
+    let within : Within (l .before) (x .outer) now =
+    record {
+      value = omega (arith, b, w .value);
+      names = omega (arith, g .0, w .names);
+      text = omega (arith, g .1, w .text);
+      entries = omega (arith, a, own, w .entries);
+      undo = omega (arith, d, m, w .undo);
+    } in
+    let later = levels-falling floor top u ls ks (l .before) (x .outer) true now within (f .2) (c .1) (x .under) in
+    rw (x .chainsAre, x .elementsAre) (go child a b d later)
+  where
+    one : (n : ℕ) → length (s .entries) ≡ length (noted l ks (x .outer)) + length (x .seg)
+        → length (s .bytes) ≡ length (x .outer .bytes) + length (x .body)
+        → length (s .undos) ≡ length (loggedBy l ks (x .outer)) + length (x .own) → x .count ≤ n
+        → Falling (k .object) (markAtStart k) (x .chain) (withCount now n)
+    one n a b d h =
+        let o = x .opened in
+        let e = extends-longer (with-extends (l .before) (l .own)) in
+        marks-falling floor (l .object) l k (omega (arith, o .names, e .0)) (omega (arith, o .text, e .1)) (k .object) (l .marks) (x .chain) (x .told)
+        (standOf ns (x .seg) (x .body) (x .own) (x .count)) (withCount now n) (x .grows)
+        (record {
+          value = omega (arith, o .value, b, w .value);
+          names = w .names;
+          text = w .text;
+          entries = omega (arith, o .entries, a, w .entries);
+          undo = omega (arith, o .undo, d, w .undo);
+          count = h;
+        }) (x .marks)
+
+    more : (t : Bool) → x .count ≤ cond t (x .count) (x .count + 1)
+    more true = omega arith
+    more false = omega arith
+
+    go : (t : Bool) → length (s .entries) ≡ length (noted l ks (x .outer)) + length (x .seg)
+        → length (s .bytes) ≡ length (x .outer .bytes) + length (x .body)
+        → length (s .undos) ≡ length (loggedBy l ks (x .outer)) + length (x .own) → AllFalling ks (x .outer .chains) (oneMore ks (x .outer .elements)) now
+        → AllFalling (k ∷ ks) (x .chain ∷ x .outer .chains)
+        (cond t (oneMore (k ∷ ks) (x .count ∷ oneMore ks (x .outer .elements))) (x .count ∷ oneMore ks (x .outer .elements))) now
+    go true a b d later =
+        (omega (arith, x .few, x .marksAre), x .marksAre, one (cond (k .object) (x .count) (x .count + 1)) a b d (more (k .object)), later)
+    go false a b d later = (omega (arith, x .few, x .marksAre), x .marksAre, one (x .count) a b d (omega arith), later)
+
 -- no starting mark falls or exceeds the used counts
-pub levels-rising : (floor : ℕ) (top : Option Tree) (u : Bool) (ls : List Level) (ks : List Container) (ns : List Name) (s : Used) (value names text entries : ℕ) → length (s .bytes) ≤ value → length ns ≤ names
-    → length (joined ns) ≤ text → length (s .entries) ≤ entries → FormedLevels ls → Chained ns top ls → Levels floor top u ls ks ns s → Rising ks value names text entries
-levels-rising floor top u [] [] ns s value names text entries v n t e f c x = tt
-levels-rising floor top u [] (k ∷ ks) ns s value names text entries v n t e f c x = absurd x
-levels-rising floor top u (l ∷ ls) [] ns s value names text entries v n t e f c x = absurd x
-levels-rising floor top u (l ∷ ls) (k ∷ ks) ns s value names text entries v n t e f c x =
+pub levels-rising : (floor : ℕ) (top : Option Tree) (u : Bool) (ls : List Level) (ks : List Container) (ns : List Name) (s : Used)
+    (value names text entries undo : ℕ) → length (s .bytes) ≤ value → length ns ≤ names
+    → length (joined ns) ≤ text → length (s .entries) ≤ entries → length (s .undos) ≤ undo → FormedLevels ls → Chained ns top ls
+    → Levels floor top u ls ks ns s → Rising ks value names text entries undo
+levels-rising floor top u [] [] ns s value names text entries undo v n t e w f c x = tt
+levels-rising floor top u [] (k ∷ ks) ns s value names text entries undo v n t e w f c x = absurd x
+levels-rising floor top u (l ∷ ls) [] ns s value names text entries undo v n t e w f c x = absurd x
+levels-rising floor top u (l ∷ ls) (k ∷ ks) ns s value names text entries undo v n t e w f c x =
     let o = x .opened in
     let g = c .0 .extends in
     let own = noted-count floor top u ls ks (l .before) (ownNames l) (x .outer) (l .own) (length (x .outer .bytes)) (with-extends (l .before) (l .own)) (with-held (l .before) (l .own)) (f .1) (c .1) (x .under) in
@@ -244,21 +456,37 @@ levels-rising floor top u (l ∷ ls) (k ∷ ks) ns s value names text entries v 
       omega (arith, o .names),
       omega (arith, o .text),
       omega (arith, o .entries),
-      levels-rising floor top u ls ks (l .before) (x .outer) (k .value) (k .names) (k .text) (k .entries) (omega (arith, o .value)) (omega (arith, o .names)) (omega (arith, o .text))
-          (omega (arith, o .entries)) (f .2) (c .1) (x .under),
+      omega (arith, o .undo, ap length (x .undosAre), length-append (loggedBy l ks (x .outer)) (x .own)),
+      levels-rising floor top u ls ks (l .before) (x .outer) (k .value) (k .names) (k .text) (k .entries) (k .undo) (omega (arith, o .value))
+          (omega (arith, o .names)) (omega (arith, o .text))
+          (omega (arith, o .entries)) (omega (arith, o .undo, logged-longer (ownNames l) ks (l .own) (x .outer .entries) (x .outer .undos))) (f .2)
+          (c .1) (x .under),
     )
 
+-- a record that was taken counts
+not-unrecorded : (k p : Container) → p .undo + length (recordOf (p .marks) (k .parent)) ≤ k .undo → unrecorded k p ≡ false
+unfolding recordOf
+not-unrecorded k p h = go (k .parent) (p .marks) h
+  where
+    go : (e : ParentEntry) (n : ℕ) → p .undo + length (recordOf n e) ≤ k .undo → ((replacing e && ltb 0 n) && eqb (k .undo) (p .undo)) ≡ false
+    go New n h = refl
+    go (Replaced i o) zero h = refl
+    go (Replaced i o) (suc n) h =
+        let a : ltb 0 (suc n) ≡ true = lt-ltb 0 (suc n) (omega arith) in
+        rw (a, ne-eqb (k .undo) (p .undo) (λ e. omega (arith, e)))
+
 -- the parent's entries are well placed, and the innermost's own is among them
-pub levels-parent : (floor : ℕ) (top : Option Tree) (u : Bool) (ls : List Level) (m : Machine) (ks : List Container) (sums : List ℕ) (marks : List Bool) → FormedLevels ls → Chained (m .names) top ls
-    → Levels floor top u ls ks (m .names) (usedBy m sums marks) → ParentPlaced m ks
-unfolding note linkOf oneMore
-levels-parent floor top u [] m [] sums marks f c x = tt
-levels-parent floor top u [] m (k ∷ ks) sums marks f c x = absurd x
-levels-parent floor top u (l ∷ ls) m [] sums marks f c x = absurd x
-levels-parent floor top u (l ∷ []) m (k ∷ []) sums marks f c x = tt
-levels-parent floor top u (l ∷ []) m (k ∷ (p ∷ ks)) sums marks f c x = absurd (x .under)
-levels-parent floor top u (l ∷ (q ∷ ls)) m (k ∷ []) sums marks f c x = absurd (x .under)
-levels-parent floor top u (l ∷ (q ∷ ls)) m (k ∷ (p ∷ ks)) sums marks f c x =
+pub levels-parent : (floor : ℕ) (top : Option Tree) (u : Bool) (ls : List Level) (m : Machine) (ks : List Container) (ts : List Tallied)
+    → FormedLevels ls → Chained (m .names) top ls
+    → Levels floor top u ls ks (m .names) (usedBy m ts) → ParentPlaced m ks
+unfolding note linkOf oneMore logged
+levels-parent floor top u [] m [] ts f c x = tt
+levels-parent floor top u [] m (k ∷ ks) ts f c x = absurd x
+levels-parent floor top u (l ∷ ls) m [] ts f c x = absurd x
+levels-parent floor top u (l ∷ []) m (k ∷ []) ts f c x = tt
+levels-parent floor top u (l ∷ []) m (k ∷ (p ∷ ks)) ts f c x = absurd (x .under)
+levels-parent floor top u (l ∷ (q ∷ ls)) m (k ∷ []) ts f c x = absurd (x .under)
+levels-parent floor top u (l ∷ (q ∷ ls)) m (k ∷ (p ∷ ks)) ts f c x =
     let ms = ownNames l in
     let y = x .under in
     let base = noted q ks (y .outer) in
@@ -280,7 +508,13 @@ levels-parent floor top u (l ∷ (q ∷ ls)) m (k ∷ (p ∷ ks)) sums marks f c
     let few2 : length ms ≤ length (m .names) = omega (arith, ap length (x .grows .grown), length-append ms (x .grows .more)) in
     let w : firstOf 0 (restOf (m .elements)) ≡ cond (q .object) (y .count) (y .count + 1) =
     (λ i. firstOf 0 (restOf (x .elementsAre i))) ∙ (λ i. cond (ob i) (firstOf 0 (y .elementsAre i)) (firstOf 0 (y .elementsAre i) + 1)) in
-    let all = go (q .object) (f .1) few few2 (y .layer) in (rw (es, size, ob) (all .0), rw (es, size, ob, kp, w) (all .1))
+    let all = go (q .object) (f .1) few few2 (y .layer) in
+    let r = recordOf (p .marks) (linkIn ms (l .own) (drop (p .entries) (x .outer .entries))) in
+    let taken : p .undo + length (recordOf (p .marks) (k .parent)) ≤ k .undo =
+    (let a = ap length (y .undosAre) ∙ length-append (loggedBy q ks (y .outer)) (y .own) in
+    let b = ap (λ z. length (recordOf (p .marks) z)) (x .opened .parent) in
+    omega (arith, a, b, x .opened .undo, length-append (x .outer .undos) r, y .opened .undo)) in
+    (rw (es, size, ob) (all .0), rw (es, size, ob, kp, w) (all .1), not-unrecorded k p taken)
   where
     go : (object : Bool) → Named object (l .own) → length (l .before) ≤ length (ownNames l) → length (ownNames l) ≤ length (m .names)
         → let y = x .under in let N = noteIn (ownNames l) (l .own) (length (y .body)) (y .seg) in Layer floor (l .before) object (q .items) (y .seg) (y .count) (y .body)

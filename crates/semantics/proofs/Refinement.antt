@@ -2,15 +2,15 @@
 -- numbers (never 1), and each call that is carried out leaves one that represents the machine after it.
 use mathlib.Core.Path.{_≡_, refl, sym, _∙_, ap}
 use mathlib.Core.Bool.{Bool, true, false, cond, not, _&&_, _||_, and-eq-true-iff, true≢false}
-use mathlib.Core.List.{List, [], _∷_, _++_, append-assoc}
+use mathlib.Core.List.{List, [], _∷_, _++_, append-assoc, append-nil, head-eq-of-cons-eq, tail-eq-of-cons-eq}
 use mathlib.Core.Option.{Option, none, some}
-use Prim.Native.Nat.{ℕ, suc, _+_, _-_, _*_, _^_, _≤_, _<_}
+use Prim.Native.Nat.{ℕ, zero, suc, _+_, _-_, _*_, _^_, _≤_, _<_}
 use native.Mathlib.Nat.{add-zero, zero-add}
 use native.Mathlib.Omega.{arith}
 use lib.Dec.{eqb, leb, ltb}
 use lib.ListN.{drop, getD, length, length-append, length-drop, length-set, set, take, take-append-drop}
 use lib.Seq.{length-take-le, take-take}
-use borrow.Author.Tests.{leb-true, leb-false, le-leb, lt-ltb, le-ltb, ltb-true, ltb-false, not-false}
+use borrow.Author.Tests.{leb-true, leb-false, le-leb, lt-ltb, le-ltb, ltb-true, ltb-false, ne-eqb, not-false}
 use Rattle.encoding.specs.Rows.{Row, row, first, testOf}
 use Rattle.encoding.specs.Slices.{counted, fits, write}
 use Rattle.encoding.proofs.SliceLaws.{length-write}
@@ -24,26 +24,29 @@ use Rattle.metadata.proofs.DictionaryLaws.{Kept, place-low, place-added, kept-f
 use Rattle.container.specs.declared.Entry.{Entry}
 use Rattle.container.specs.Entries.{entriesOf, entryAt, idsOf, misplaced, offsetsOf, putEntries, roomFor, seek, setEntry}
 use Rattle.container.proofs.EntryLaws.{length-set-entry, length-put, entry-of, seeks, fronted-end, length-fronted}
+use Rattle.container.specs.Undo.{replay}
+use Rattle.container.proofs.UndoLaws.{length-replay}
 use Rattle.container.specs.Close.{fronted}
 use Rattle.container.specs.Layout.{listHeader, objectHeader}
 use Rattle.container.specs.Sort.{sort}
 use Rattle.measure.specs.Measure.{startsIn, wholeValues}
 use Rattle.semantics.specs.declared.Container.{Container}
 use Rattle.semantics.specs.declared.Counts.{Counts}
+use Rattle.semantics.specs.declared.Mark.{Mark}
 use Rattle.semantics.specs.declared.ParentEntry.{ParentEntry}
 use Rattle.semantics.specs.declared.ParentEntry.the-variants.{New, Replaced}
 use Rattle.semantics.specs.declared.View.{View}
-use Rattle.semantics.specs.Record.{Storage, State, Scalars, Call, register, append, openIn, close, rollBack, uniqueness, finish, scalarOf, goodFloor, noContainer, countable, viewOf, isOpen, inObject, inList, innerSize, innerData, innerEntries, parentEntries, namesHeld, uniqueNow}
-use Rattle.semantics.specs.Damage.{overUsed, unchained, badFloor, fallenEnds, misplacedInner, misplacedParent, uncounted, orphaned, damagedParent, misreadBy, misread, damaged}
-use Rattle.semantics.specs.Table.{scalarRows, rows, numberOf, misnamed, badName, idOf, held, live, liveUnder, namesFull, entriesFull, tooLong as tooLongFor, header}
-use Rattle.semantics.specs.Step.{dictionaryWith, textWith, endsWith, idFor, entriesWith, countWith, parentWith, registered, appended, opened, newContainer, entriesClosed, closed, entriesBack, countBack, rolledBack, finished, dictionaryOf, elementsWith, elementsBack, elementsAfter, after}
+use Rattle.semantics.specs.Record.{Storage, State, Scalars, Call, register, append, openIn, close, rollBack, uniqueness, setMark, returnTo, finish, scalarOf, tableSize, goodFloor, noContainer, noMark, countable, chained, slotOf, markAt, marksOf, markAtStart, markNow, marksHold, viewAt, isOpen, inObject, inList, innerSize, innerData, innerEntries, parentEntries, namesHeld, uniqueNow}
+use Rattle.semantics.specs.Damage.{overUsed, unchained, badFloor, fallenEnds, misplacedInner, misplacedParent, uncounted, orphaned, replacing, recordedChild, unrecorded, damagedParent, misreadBy, misread, damaged}
+use Rattle.semantics.specs.Table.{scalarRows, rows, numberOf, misnamed, badName, idOf, held, live, liveUnder, namesFull, entriesFull, recorded, undoFull, tooLong as tooLongFor, header}
+use Rattle.semantics.specs.Step.{dictionaryWith, textWith, endsWith, idFor, entriesWith, countWith, formerOffset, parentWith, undoWith, undoCountWith, registered, appended, opened, newContainer, entriesClosed, closed, entriesBack, countBack, undoBack, rolledBack, withMarks, putMark, newMark, markTo, entriesReturned, returned, finished, dictionaryOf, elementsWith, elementsBack, elementsAfter, after}
 use Rattle.semantics.specs.Step as step
 use Rattle.semantics.specs.History.{withName}
 use Rattle.semantics.specs.Ledger.{fullFor}
 use Rattle.semantics.specs.Run.{Fresh, floorOf, lentBy, valueBytes}
 use Rattle.semantics.proofs.Demand1.{none-at, append-at}
-use Rattle.semantics.proofs.Machine.{Machine, put, find, note, noteIn, linkOf, linkIn, undo, firstOf, restOf, oneMore, lessOf, oneLess, headerOf, closeAt, rollAt, markAt, apply, uniqueAt, anyOpen, objectInner, misnamedAt, liveAt, noEntryFree, tooLong, headerAt, numberAt, Rising, Counting, InnerPlaced, ParentPlaced, Orderly}
-use Rattle.semantics.proofs.StorageLaws.{not-ltb, take-write, drop-write, seek-high, put-new, find-new, find-there, Used, used-count, used-from, used-between, used-cut, used-moved, used-added, used-kept, stackOf, topOf, nextOf, length-stack, stack-top, stack-next, stack-rest, stack-first, stack-set, stack-renew, stack-chained}
+use Rattle.semantics.proofs.Machine.{Machine, put, find, note, noteIn, linkOf, linkIn, undo, recordOf, marksAt, logged, unwound, firstOf, restOf, oneMore, lessOf, oneLess, headerOf, closeAt, rollAt, setUniqueAt, markOf, setAt, backTo, returnAt, apply, uniqueAt, anyOpen, objectInner, misnamedAt, liveAt, noEntryFree, noUndoFree, tooLong, headerAt, numberAt, Rising, Falling, AllFalling, Counting, Texts, InnerPlaced, ParentPlaced, Orderly}
+use Rattle.semantics.proofs.StorageLaws.{not-ltb, take-write, drop-write, seek-high, put-new, find-new, find-there, Used, used-count, used-from, used-between, used-cut, used-moved, used-added, used-kept, used-put, stackOf, topOf, nextOf, length-stack, stack-top, stack-next, stack-rest, stack-first, stack-set, stack-renew, stack-chained, chainsOf, stack-marks, length-put-mark, chains-set, length-marks, marks-to, falling-drop, falling-start}
 
 -- ---- what is represented
 
@@ -54,17 +57,20 @@ pub record Stored (c : Counts) (l : Storage) (m : Machine) : Type 0 where
   pub within : c .value ≤ counted (length (l .value))
   pub names : Kept (c .dictionary) (l .text) (l .ends) (m .names)
   pub entries : Used (l .entries) (c .entries) (m .entries)
+  pub undo : Used (l .undo) (c .undo) (m .undos)
   pub unique : c .unique ≡ m .unique
   pub finished : c .finished ≡ m .finished
   pub floor : c .floor ≡ m .floor
 
--- by a state: the open containers and their elements too, the innermost first
+-- by a state: the open containers, their elements and their marks too, the innermost first
 pub record Represents (s : State) (m : Machine) : Type 0 where
   pub stored : Stored (s .builder .counts) (s .storage) m
   pub stack : stackOf noContainer (s .builder .containers) (s .builder .counts .depth) ≡ m .conts
   pub elements : stackOf 0 (s .builder .elements) (s .builder .counts .depth) ≡ m .elements
   pub size : length (s .builder .containers) ≡ 64
   pub sizes : length (s .builder .elements) ≡ 64
+  pub chains : chainsOf (s .marks) (m .conts) ≡ m .chains
+  pub table : length (s .marks) ≡ tableSize
 
 -- by what a call sees
 pub record Sees (v : View) (l : Storage) (m : Machine) : Type 0 where
@@ -79,24 +85,45 @@ pub record Sees (v : View) (l : Storage) (m : Machine) : Type 0 where
 pub represents-depth : {s : State} {m : Machine} → Represents s m → s .builder .counts .depth ≡ length (m .conts)
 represents-depth {s} r = sym (length-stack noContainer (s .builder .containers) (s .builder .counts .depth)) ∙ ap length (r .stack)
 
+-- the mark that would be set
+used-now : {c : Counts} {l : Storage} {m : Machine} → Stored c l m → {n : ℕ} {u : Bool} → markNow c n u ≡ markOf m n u
+used-now t {n} {u} =
+    let a = t .value in
+    let b = t .names .holds in
+    let c = used-count (t .entries) in
+    let d = used-count (t .undo) in
+    λ i. record { value = a i; names = sym (b .count) i; text = sym (b .total) i; entries = sym c i; undo = sym d i; count = n; unique = u }
+
+holds-by : (ks : List Container) (ns ms : List ℕ) (c : Counts) (d : ℕ) (m : Machine) → stackOf noContainer ks d ≡ m .conts → stackOf 0 ns d ≡ m .elements
+    → chainsOf ms (m .conts) ≡ m .chains → markNow c 0 false ≡ markOf m 0 false → Orderly m → marksHold ks ns ms c d ≡ true
+holds-by ks ns ms c d m p q r e o = stack-marks ks ns ms c d (rw (p, q, r, e) (o .falling))
+
 -- what a call sees of a state that represents m
-pub sees : {s : State} {m : Machine} → Represents s m → Orderly m → Sees (viewOf (s .builder)) (s .storage) m
+pub sees : {s : State} {m : Machine} → Represents s m → Orderly m → Sees (viewAt s) (s .storage) m
 sees {s} {m} r o =
     let ks = s .builder .containers in
     let ns = s .builder .elements in
     let d = s .builder .counts .depth in
-    let k = o .depth in
-    let e = represents-depth r in
     record {
       stored = r .stored;
-      depth = e;
+      depth = represents-depth r;
       inner = stack-top noContainer ks d ∙ ap topOf (r .stack);
       elements = stack-top 0 ns d ∙ ap (firstOf 0) (r .elements);
       parent = stack-next noContainer ks d ∙ ap nextOf (r .stack);
       siblings = stack-next 0 ns d ∙ ap (λ (z : List ℕ). firstOf 0 (restOf z)) (r .elements);
-      chain = stack-chained ks ns d (length (m .bytes)) (length (m .names)) (length (joined (m .names))) (length (m .entries)) 0 (rw (r .stack) (o .rising)) (rw (r .stack, r .elements) (o .counting))
-          (omega arith);
+      chain = both-true _ _ rises (holds-by ks ns (s .marks) (s .builder .counts) d m (r .stack) (r .elements) (r .chains) (used-now (r .stored)) o);
     }
+  where
+    both-true : (t u : Bool) → t ≡ true → u ≡ true → (t && u) ≡ true
+    both-true t u p q = rw (p, q)
+
+    rises : chained (s .builder .containers) (s .builder .elements) (s .builder .counts .depth) ≡ true
+    rises =
+        let k = o .depth in
+        let e = represents-depth r in
+        stack-chained (s .builder .containers) (s .builder .elements) (s .builder .counts .depth) (length (m .bytes)) (length (m .names))
+        (length (joined (m .names)))
+        (length (m .entries)) (length (m .undos)) 0 (rw (r .stack) (o .rising)) (rw (r .stack, r .elements) (o .counting)) (omega arith)
 
 -- ---- what a call reads is the machine's
 
@@ -112,6 +139,10 @@ unique-stack : (m : Machine) (ks : List Container) → cond (anyOpen ks) (topOf 
 unique-stack m [] = refl
 unique-stack m (k ∷ ks) = refl
 
+marks-stack : (ks : List Container) → topOf ks .marks ≡ marksAt ks
+marks-stack [] = refl
+marks-stack (k ∷ ks) = refl
+
 live-stack : (m : Machine) (n : Name) (ks : List Container) → let es = drop (topOf ks .entries) (m .entries) in
     (anyOpen ks && (ltb (place n (m .names)) (length (m .names)) && ltb (seek (place n (m .names)) es) (length es))) ≡ liveAt m (some n) ks
 live-stack m n [] = refl
@@ -123,6 +154,12 @@ module _ {v : View} {l : Storage} {m : Machine} (s : Sees v l m) where
 
   count-law : v .counts .entries ≡ length (m .entries)
   count-law = sym (used-count used)
+
+  undo-law : v .counts .undo ≡ length (m .undos)
+  undo-law = sym (used-count (s .stored .undo))
+
+  marks-law : v .inner .marks ≡ marksAt (m .conts)
+  marks-law = ap (λ k. k .marks) (s .inner) ∙ marks-stack (m .conts)
 
   names-law : namesHeld v l ≡ m .names
   names-law = s .stored .names .holds .names
@@ -182,25 +219,29 @@ module _ {v : View} {l : Storage} {m : Machine} (s : Sees v l m) where
   free-law : (nm : Option Name) → entriesFull v l nm ≡ noEntryFree m (lentBy l) nm
   free-law nm i = (in-law i && not (live-law nm i)) && leb (roomFor (length (l .entries))) (count-law i)
 
+  record-law : (nm : Option Name) → undoFull v l nm ≡ noUndoFree m (lentBy l) nm
+  record-law nm i = (live-law nm i && ltb 0 (marks-law i)) && leb (roomFor (length (l .undo))) (undo-law i)
+
 -- ---- number 1 does not come
 
 neither : (t u : Bool) → t ≡ false → u ≡ false → (t || u) ≡ false
 neither t u p q = rw (p, q)
 
 -- the innermost's starting marks lie within the counts
-record Low (k : Container) (a b c e : ℕ) : Type 0 where
+record Low (k : Container) (a b c e w : ℕ) : Type 0 where
   value : k .value ≤ a
   names : k .names ≤ b
   text : k .text ≤ c
   entries : k .entries ≤ e
+  undo : k .undo ≤ w
 
-low-stack : (ks : List Container) (a b c e : ℕ) → Rising ks a b c e → Low (topOf ks) a b c e
-low-stack [] a b c e r = record { value = omega arith; names = omega arith; text = omega arith; entries = omega arith }
-low-stack (k ∷ ks) a b c e r = record { value = r .0; names = r .1; text = r .2; entries = r .3 }
+low-stack : (ks : List Container) (a b c e w : ℕ) → Rising ks a b c e w → Low (topOf ks) a b c e w
+low-stack [] a b c e w r = record { value = omega arith; names = omega arith; text = omega arith; entries = omega arith; undo = omega arith }
+low-stack (k ∷ ks) a b c e w r = record { value = r .0; names = r .1; text = r .2; entries = r .3; undo = r .4 }
 
 module _ {v : View} {l : Storage} {m : Machine} (s : Sees v l m) (o : Orderly m) where
-  low : Low (topOf (m .conts)) (length (m .bytes)) (length (m .names)) (length (joined (m .names))) (length (m .entries))
-  low = low-stack (m .conts) _ _ _ _ (o .rising)
+  low : Low (topOf (m .conts)) (length (m .bytes)) (length (m .names)) (length (joined (m .names))) (length (m .entries)) (length (m .undos))
+  low = low-stack (m .conts) _ _ _ _ _ (o .rising)
 
   over-none : overUsed v l ≡ false
   unfolding overUsed
@@ -208,7 +249,8 @@ module _ {v : View} {l : Storage} {m : Machine} (s : Sees v l m) (o : Orderly m)
       let h = s .stored .names .holds in
       neither _ _ (le-ltb (counted (length (l .value))) (v .counts .value) (s .stored .within))
       (neither _ _ (neither _ _ (le-ltb (counted (length (l .text))) (textSize (v .counts .dictionary)) (h .inText)) (le-ltb (length (l .ends)) (fieldNames (v .counts .dictionary)) (h .inEnds)))
-      (le-ltb (roomFor (length (l .entries))) (v .counts .entries) (used s .room)))
+      (neither _ _ (le-ltb (roomFor (length (l .entries))) (v .counts .entries) (used s .room))
+      (le-ltb (roomFor (length (l .undo))) (v .counts .undo) (s .stored .undo .room))))
 
   chain-none : unchained v ≡ false
   unfolding unchained
@@ -219,10 +261,11 @@ module _ {v : View} {l : Storage} {m : Machine} (s : Sees v l m) (o : Orderly m)
       let x2 = le-leb (k .names) (length (m .names)) (w .names) in
       let x3 = le-leb (k .text) (length (joined (m .names))) (w .text) in
       let x4 = le-leb (k .entries) (length (m .entries)) (w .entries) in
-      let x5 = go (m .conts) (o .counting) in
+      let x5 = le-leb (k .undo) (length (m .undos)) (w .undo) in
+      let x6 = go (m .conts) (o .counting) in
       (λ i. not (s .chain i && (leb (s .inner i .value) (s .stored .value i) && (leb (s .inner i .names) (many-law s i) && (leb (s .inner i .text) (text-law s i) && (leb (s .inner i .entries) (count-law s i)
-      && countable (s .inner i) (s .elements i) (size-law s i)))))))
-      ∙ (λ i. not (x1 i && (x2 i && (x3 i && (x4 i && x5 i)))))
+      && (leb (s .inner i .undo) (undo-law s i) && countable (s .inner i) (s .elements i) (size-law s i))))))))
+      ∙ (λ i. not (x1 i && (x2 i && (x3 i && (x4 i && (x5 i && x6 i))))))
     where
       go : (ks : List Container) → Counting ks (m .elements) (length (m .bytes)) 0 → countable (topOf ks) (firstOf 0 (m .elements)) (length (m .bytes) - topOf ks .value) ≡ true
       go [] c = rw c (le-leb 0 (length (m .bytes) - 0) (omega arith))
@@ -263,15 +306,17 @@ module _ {v : View} {l : Storage} {m : Machine} (s : Sees v l m) (o : Orderly m)
   unfolding damagedParent misplacedParent
   parent-none =
       (λ i. ltb 1 (s .depth i) && ((s .parent i .object && misplaced true (many-law s i) (s .inner i .value - s .parent i .value) (parent-entries i))
-      || orphaned (s .inner i .parent) (s .parent i .object) (s .siblings i) (s .inner i .value - s .parent i .value) (parent-entries i)))
+      || (orphaned (s .inner i .parent) (s .parent i .object) (s .siblings i) (s .inner i .value - s .parent i .value) (parent-entries i)
+      || unrecorded (s .inner i) (s .parent i))))
       ∙ go (m .conts) (o .parent)
     where
       go : (ks : List Container) → ParentPlaced m ks → let es = take (topOf ks .entries - nextOf ks .entries) (drop (nextOf ks .entries) (m .entries)) in
           (ltb 1 (length ks) && ((nextOf ks .object && misplaced true (length (m .names)) (topOf ks .value - nextOf ks .value) es)
-          || orphaned (topOf ks .parent) (nextOf ks .object) (firstOf 0 (restOf (m .elements))) (topOf ks .value - nextOf ks .value) es)) ≡ false
+          || (orphaned (topOf ks .parent) (nextOf ks .object) (firstOf 0 (restOf (m .elements))) (topOf ks .value - nextOf ks .value) es
+          || unrecorded (topOf ks) (nextOf ks)))) ≡ false
       go [] h = refl
       go (k ∷ []) h = refl
-      go (k ∷ (p ∷ ks)) h = rw (lt-ltb 1 (suc (suc (length ks))) (omega arith)) (neither _ _ (h .0) (h .1))
+      go (k ∷ (p ∷ ks)) h = rw (lt-ltb 1 (suc (suc (length ks))) (omega arith)) (neither _ _ (h .0) (neither _ _ (h .1) (h .2)))
 
   named-none : (nm : Option Name) → misreadBy v l nm ≡ false
   named-none none = refl
@@ -284,6 +329,8 @@ module _ {v : View} {l : Storage} {m : Machine} (s : Sees v l m) (o : Orderly m)
   misread-none close = neither _ _ ends-none (neither _ _ inner-none whole-none)
   misread-none rollBack = parent-none
   misread-none (uniqueness u) = refl
+  misread-none setMark = refl
+  misread-none (returnTo j) = inner-none
   misread-none (finish out) = ends-none
 
   damaged-none : (c : Call) → damaged v l (misread v l c) ≡ false
@@ -304,7 +351,8 @@ module _ {v : View} {l : Storage} {m : Machine} (s : Sees v l m) (o : Orderly m)
       ++ (row 9 (badName nm)
       ∷ (row 10 (unique-law s i && live-law s nm i)
       ∷ (row 12 (full-law s nm i)
-      ∷ (row 13 (free-law s nm i) ∷ (row 14 (not (fits (s .stored .value i) (length (scalarBytes (scalarOf x))) (length (l .value)))) ∷ []))))))))))
+      ∷ (row 13 (free-law s nm i)
+      ∷ (row 23 (record-law s nm i) ∷ (row 14 (not (fits (s .stored .value i) (length (scalarBytes (scalarOf x))) (length (l .value)))) ∷ [])))))))))))
   sees-number (openIn nm k) = λ i.
       first (row 1 (damaged-none (openIn nm k) i)
       ∷ (row 2 (s .stored .finished i)
@@ -312,7 +360,7 @@ module _ {v : View} {l : Storage} {m : Machine} (s : Sees v l m) (o : Orderly m)
       ∷ (row 6 (not (open-law s i) && ltb 0 (s .stored .value i))
       ∷ (row 9 (badName nm)
       ∷ (row 10 (unique-law s i && live-law s nm i)
-      ∷ (row 11 (leb 64 (s .depth i)) ∷ (row 12 (full-law s nm i) ∷ (row 13 (free-law s nm i) ∷ [])))))))))
+      ∷ (row 11 (leb 64 (s .depth i)) ∷ (row 12 (full-law s nm i) ∷ (row 13 (free-law s nm i) ∷ (row 23 (record-law s nm i) ∷ []))))))))))
   sees-number close =
       (λ i. first (row 1 (damaged-none close i)
       ∷ (row 2 (s .stored .finished i) ∷ (row 3 (not (open-law s i)) ∷ (row 14 (not (fits (s .stored .value i) (length (header-law s i)) (length (l .value)))) ∷ [])))))
@@ -328,6 +376,11 @@ module _ {v : View} {l : Storage} {m : Machine} (s : Sees v l m) (o : Orderly m)
       go (k ∷ ks) = refl
   sees-number rollBack = λ i. first (row 1 (damaged-none rollBack i) ∷ (row 2 (s .stored .finished i) ∷ (row 3 (not (open-law s i)) ∷ [])))
   sees-number (uniqueness u) = λ i. first (row 1 (damaged-none (uniqueness u) i) ∷ (row 2 (s .stored .finished i) ∷ (row 3 (not (in-law s i)) ∷ [])))
+  sees-number setMark =
+      λ i. first (row 1 (damaged-none setMark i) ∷ (row 2 (s .stored .finished i) ∷ (row 22 (not (open-law s i) || leb 16 (marks-law s i)) ∷ [])))
+  sees-number (returnTo j) = λ i.
+      first (row 1 (damaged-none (returnTo j) i)
+      ∷ (row 2 (s .stored .finished i) ∷ (row 22 (not (open-law s i) || (eqb j 0 || ltb (marks-law s i) j)) ∷ [])))
   sees-number (finish out) = λ i.
       first (row 1 (damaged-none (finish out) i)
       ∷ (row 2 (s .stored .finished i)
@@ -335,7 +388,8 @@ module _ {v : View} {l : Storage} {m : Machine} (s : Sees v l m) (o : Orderly m)
       ∷ (row 15 (eqb (s .stored .value i) 0) ∷ (row 16 (not (leb (sizeOf (s .stored .floor i) (many-law s i) (text-law s i)) (counted (length out)))) ∷ [])))))
 
 -- the numbers are the machine's, so that number 1 never comes
-pub represents-number : {s : State} {m : Machine} → Represents s m → Orderly m → (c : Call) → numberOf (viewOf (s .builder)) (s .storage) c ≡ numberAt m (lentBy (s .storage)) c
+pub represents-number : {s : State} {m : Machine} → Represents s m → Orderly m → (c : Call)
+    → numberOf (viewAt s) (s .storage) c ≡ numberAt m (lentBy (s .storage)) c
 represents-number r o c = sees-number (sees r o) o c
 
 -- ---- a name given
@@ -502,13 +556,49 @@ module _ {v : View} {l : Storage} {m : Machine} (s : Sees v l m) (o : Orderly m)
   parent-with =
       (λ i. parentFor (l .entries) (live-law s nm i) (fresh-id i) (s .inner i .entries) (entries-law s i)) ∙ link-law m (used s) nm (m .conts) (o .inner) named-at
 
+-- ---- the undo record of a replacement
+
+used-as : {l : List ℕ} {n : ℕ} {es fs : List Entry} → es ≡ fs → Used l n es → Used l n fs
+used-as p u = rw (← p) u
+
+log-law : {l : List ℕ} {n : ℕ} {us : List Entry} (u : Used l n us) (live : Bool) (marks id o : ℕ)
+    → ((live && ltb 0 marks) && leb (roomFor (length l)) n) ≡ false
+    → Used (cond (live && ltb 0 marks) (setEntry l n (record { id = id; offset = o })) l) (cond (live && ltb 0 marks) (n + 1) n)
+    (us ++ recordOf marks (cond live (Replaced id o) New))
+unfolding recordOf
+log-law {us = us} u false zero id o f = rw (append-nil us) u
+log-law {us = us} u false (suc m) id o f = rw (append-nil us) u
+log-law {us = us} u true zero id o f = rw (append-nil us) u
+log-law {l} {n} {us} u true (suc m) id o f =
+    let e : ltb 0 (suc m) ≡ true = lt-ltb 0 (suc m) (omega arith) in
+    let g : leb (roomFor (length l)) n ≡ false = rw e at f in
+    rw e (used-added u (record { id = id; offset = o }) (leb-false (roomFor (length l)) n g))
+
+log-size : (l : List ℕ) (n : ℕ) (t : Bool) (e : Entry) → length (cond t (setEntry l n e) l) ≡ length l
+log-size l n true e = length-set-entry l n e
+log-size l n false e = refl
+
+module _ {v : View} {l : Storage} {m : Machine} (s : Sees v l m) (o : Orderly m) (nm : Option Name) (named : misnamed nm v ≡ false) where
+  undo-with : undoFull v l nm ≡ false
+      → Used (undoWith v l nm) (undoCountWith v l nm) (logged (withName (m .names) nm) (m .conts) nm (m .entries) (m .undos))
+  unfolding logged
+  undo-with f =
+      let p = parent-with s o nm named in
+      let q = marks-law s in
+      used-as (λ i. m .undos ++ recordOf (q i) (p i))
+      (log-law (s .stored .undo) (liveUnder v l nm) (v .inner .marks) (idFor v l nm) (formerOffset v l nm) f)
+
+  undo-size : length (undoWith v l nm) ≡ length (l .undo)
+  undo-size = log-size (l .undo) (v .counts .undo) (recorded v l nm) (record { id = idFor v l nm; offset = formerOffset v l nm })
+
 -- ---- what each call leaves
 
--- rows 5, 12 and 13, where a value may enter under a name or none
+-- rows 5, 12, 13 and 23, where a value may enter under a name or none
 record Admits (v : View) (l : Storage) (nm : Option Name) : Type 0 where
   named : misnamed nm v ≡ false
   full : namesFull v l nm ≡ false
   free : entriesFull v l nm ≡ false
+  undos : undoFull v l nm ≡ false
 
 module _ {v : View} {l : Storage} {m : Machine} (s : Sees v l m) where
   -- bytes behind the used ones
@@ -520,13 +610,33 @@ module _ {v : View} {l : Storage} {m : Machine} (s : Sees v l m) where
   register-law n h =
       let t = s .stored in
       let w = names-with s (some n) h in
-      record { value = t .value; bytes = t .bytes; within = t .within; names = w .kept; entries = t .entries; unique = t .unique; finished = t .finished; floor = t .floor }
+      record {
+        value = t .value;
+        bytes = t .bytes;
+        within = t .within;
+        names = w .kept;
+        entries = t .entries;
+        undo = t .undo;
+        unique = t .unique;
+        finished = t .finished;
+        floor = t .floor;
+      }
 
   finish-law : (out : List ℕ) → Stored (finished (v .counts)) l (apply m (finish out))
   unfolding finished apply
   finish-law out =
       let t = s .stored in
-      record { value = t .value; bytes = t .bytes; within = t .within; names = t .names; entries = t .entries; unique = t .unique; finished = refl; floor = t .floor }
+      record {
+        value = t .value;
+        bytes = t .bytes;
+        within = t .within;
+        names = t .names;
+        entries = t .entries;
+        undo = t .undo;
+        unique = t .unique;
+        finished = refl;
+        floor = t .floor;
+      }
 
   module _ (o : Orderly m) where
     append-law : (nm : Option Name) (x : Scalars) → Admits v l nm → tooLongFor v l (length (scalarBytes (scalarOf x))) ≡ false
@@ -543,6 +653,7 @@ module _ {v : View} {l : Storage} {m : Machine} (s : Sees v l m) where
           within = rw (length-write (v .counts .value) bs (l .value) (omega arith)) f;
           names = w .kept;
           entries = entries-with s o nm (a .named) (a .free);
+          undo = undo-with s o nm (a .named) (a .undos);
           unique = t .unique;
           finished = t .finished;
           floor = t .floor;
@@ -553,14 +664,35 @@ module _ {v : View} {l : Storage} {m : Machine} (s : Sees v l m) where
     open-stored nm object a =
         let t = s .stored in
         let w = names-with s nm (a .full) in
-        record { value = t .value; bytes = t .bytes; within = t .within; names = w .kept; entries = entries-with s o nm (a .named) (a .free); unique = t .unique; finished = t .finished; floor = t .floor }
+        record {
+          value = t .value;
+          bytes = t .bytes;
+          within = t .within;
+          names = w .kept;
+          entries = entries-with s o nm (a .named) (a .free);
+          undo = undo-with s o nm (a .named) (a .undos);
+          unique = t .unique;
+          finished = t .finished;
+          floor = t .floor;
+        }
 
     open-container : (nm : Option Name) (object : Bool) → Admits v l nm → newContainer v l nm object ∷ m .conts ≡ apply m (openIn nm object) .conts
     unfolding newContainer apply
     open-container nm object a =
         let e = sym (used-count (entries-with s o nm (a .named) (a .free))) in
         let p = parent-with s o nm (a .named) in
-        λ i. record { value = s .stored .value i; names = many-law s i; text = text-law s i; entries = e i; parent = p i; object = object; unique = unique-law s i } ∷ m .conts
+        let w = sym (used-count (undo-with s o nm (a .named) (a .undos))) in
+        λ i. record {
+          value = s .stored .value i;
+          names = many-law s i;
+          text = text-law s i;
+          entries = e i;
+          undo = w i;
+          parent = p i;
+          object = object;
+          unique = unique-law s i;
+          marks = 0;
+        } ∷ m .conts
 
 -- the bytes and the entries before a mark
 before-mark : (k n : ℕ) (value bytes : List ℕ) → take n value ≡ bytes → k ≤ n → take k value ≡ take k bytes
@@ -608,6 +740,7 @@ module _ {v : View} {l : Storage} {m : Machine} (s : Sees v l m) (o : Orderly m)
     value : v .inner .value ≤ v .counts .value
     names : v .inner .names ≤ fieldNames (v .counts .dictionary)
     entries : v .inner .entries ≤ v .counts .entries
+    undo : v .inner .undo ≤ v .counts .undo
 
   innermost-law : Innermost (topOf (m .conts))
   innermost-law =
@@ -616,11 +749,13 @@ module _ {v : View} {l : Storage} {m : Machine} (s : Sees v l m) (o : Orderly m)
       let a = count-law s in
       let b = many-law s in
       let c = s .stored .value in
+      let d = undo-law s in
       record {
         is = e;
         value = rw e (omega arith);
         names = rw e (omega arith);
         entries = rw e (omega arith);
+        undo = rw e (omega arith);
       }
 
   close-law : (js : List Container) → m .conts ≡ js → anyOpen js ≡ true → tooLongFor v l (length (header v l)) ≡ false → Stored (closed v l .counts) (closed v l .storage) (closeAt m js)
@@ -643,6 +778,7 @@ module _ {v : View} {l : Storage} {m : Machine} (s : Sees v l m) (o : Orderly m)
         within = rw n room;
         names = t .names;
         entries = rw (← i .is) (closed-entries (v .inner .object) (v .inner .entries) _ (used s) (i .entries));
+        undo = rw (← i .is) (used-cut (t .undo) (v .inner .undo) (i .undo));
         unique = t .unique;
         finished = t .finished;
         floor = t .floor;
@@ -663,11 +799,40 @@ module _ {v : View} {l : Storage} {m : Machine} (s : Sees v l m) (o : Orderly m)
       let par : v .parent ≡ p = s .parent ∙ ap nextOf e in
       let es : parentEntries v l ≡ take (k .entries - p .entries) (drop (p .entries) (m .entries)) =
       parent-entries s o ∙ ap (λ z. take (topOf z .entries - nextOf z .entries) (drop (nextOf z .entries) (m .entries))) e in
-      let rise : Rising (k ∷ (p ∷ ks)) (length (m .bytes)) (length (m .names)) (length (joined (m .names))) (length (m .entries)) = rw e at (o .rising) in
+      let rise : Rising (k ∷ (p ∷ ks)) (length (m .bytes)) (length (m .names)) (length (joined (m .names))) (length (m .entries)) (length (m .undos)) =
+      rw e at (o .rising) in
       let own : ParentPlaced m (k ∷ (p ∷ ks)) = rw e at (o .parent) in
       let back = back-for v l (v .inner .parent) ∙ (λ z. backFor (l .entries) (i .is z .parent) (par z .entries) (es z)) in
       used-by (λ z. cond (below z) (back z) (l .entries)) (λ z. cond (below z) (countBack (par z .object) (i .is z .entries) (i .is z .parent)) (i .is z .entries))
-      (back-law (used s) (k .parent) (firstOf 0 (restOf (m .elements))) (k .value - p .value) (k .entries) p ks (rise .4 .3) h (own .1))
+      (back-law (used s) (k .parent) (firstOf 0 (restOf (m .elements))) (k .value - p .value) (k .entries) p ks (rise .5 .3) h (own .1))
+
+  -- its own record is free again
+  roll-count : (k : Container) (ks : List Container) → m .conts ≡ k ∷ ks
+      → cond (ltb 1 (v .counts .depth)) (undoBack (v .inner) (v .parent)) (v .inner .undo) ≡ k .undo - length (recordOf (marksAt ks) (k .parent))
+  unfolding recordOf
+  roll-count k [] e =
+      let i : Innermost k = rw (ap topOf e) at innermost-law in
+      let below : ltb 1 (v .counts .depth) ≡ false = ap (ltb 1) (s .depth ∙ ap length e) in
+      (λ z. cond (below z) (undoBack (v .inner) (v .parent)) (i .is z .undo)) ∙ omega arith
+  roll-count k (p ∷ ks) e =
+      let i : Innermost k = rw (ap topOf e) at innermost-law in
+      let below : ltb 1 (v .counts .depth) ≡ true = ap (ltb 1) (s .depth ∙ ap length e) ∙ lt-ltb 1 (suc (suc (length ks))) (omega arith) in
+      let par : v .parent ≡ p = s .parent ∙ ap nextOf e in
+      (λ z. cond (below z) (undoBack (i .is z) (par z)) (i .is z .undo)) ∙ go (k .parent) (p .marks)
+    where
+      go : (x : ParentEntry) (n : ℕ) → cond (replacing x && ltb 0 n) (k .undo - 1) (k .undo) ≡ k .undo - length (recordOf n x)
+      go New zero = omega arith
+      go New (suc n) = omega arith
+      go (Replaced a b) zero = omega arith
+      go (Replaced a b) (suc n) = let q : ltb 0 (suc n) ≡ true = lt-ltb 0 (suc n) (omega arith) in rw q (omega arith)
+
+  roll-undos : (k : Container) (ks : List Container) → m .conts ≡ k ∷ ks
+      → Used (l .undo) (cond (ltb 1 (v .counts .depth)) (undoBack (v .inner) (v .parent)) (v .inner .undo))
+      (take (k .undo - length (recordOf (marksAt ks) (k .parent))) (m .undos))
+  roll-undos k ks e =
+      let i : Innermost k = rw (ap topOf e) at innermost-law in
+      let h : k .undo ≤ v .counts .undo = rw (i .is) at (i .undo) in
+      used-by refl (roll-count k ks e) (used-cut (s .stored .undo) (k .undo - length (recordOf (marksAt ks) (k .parent))) (omega arith))
 
   roll-law : (js : List Container) → m .conts ≡ js → anyOpen js ≡ true → Stored (rolledBack v l .counts) (rolledBack v l .storage) (rollAt m js)
   unfolding rolledBack undo
@@ -692,6 +857,71 @@ module _ {v : View} {l : Storage} {m : Machine} (s : Sees v l m) (o : Orderly m)
         within = omega arith;
         names = rw (x, y) (kept-back (take (k .names) (m .names)) (drop (k .names) (m .names)) whole (length-take-le (k .names) (m .names) (omega arith)) (sym (placed .1)));
         entries = roll-entries k ks e;
+        undo = roll-undos k ks e;
+        unique = t .unique;
+        finished = t .finished;
+        floor = t .floor;
+      }
+
+-- ---- a return
+
+take-parts : (k q : ℕ) (es : List Entry) → k ≤ q → take q es ≡ take k es ++ take (q - k) (drop k es)
+take-parts zero q es h = let e : q - 0 ≡ q = omega arith in rw e
+take-parts (suc k) zero es h = absurd (omega arith)
+take-parts (suc k) (suc q) [] h = sym (none (suc q - suc k))
+  where
+    none : (n : ℕ) → _≡_ {A = List Entry} (take n []) []
+    none zero = refl
+    none (suc n) = refl
+take-parts (suc k) (suc q) (e ∷ es) h = let p : suc q - suc k ≡ q - k = omega arith in rw p (ap (λ z. e ∷ z) (take-parts k q es (omega arith)))
+
+-- the entries cut, and in an object the records undone
+back-entries : {l : List ℕ} {n : ℕ} {es : List Entry} (u : Used l n es) (t : Bool) (k q : ℕ) (rs : List Entry) → k ≤ q → q ≤ n
+    → Used (cond t (putEntries k (replay rs (take (q - k) (drop k es))) l) l) q (take k es ++ unwound t rs (take (q - k) (drop k es)))
+unfolding unwound
+back-entries {es = es} u true k q rs g h =
+    let fs = replay rs (take (q - k) (drop k es)) in
+    let c = used-count u in
+    let w = length-drop k es in
+    let d : length (take (q - k) (drop k es)) ≡ q - k = length-take-le (q - k) (drop k es) (omega arith) in
+    let e : k + length fs ≡ q = omega (arith, length-replay rs (take (q - k) (drop k es)), d) in
+    used-by refl (sym e) (used-put u k fs (omega arith))
+back-entries {es = es} u false k q rs g h = used-as (take-parts k q es g) (used-cut u q h)
+
+texts-drop : (i : ℕ) (ps : List Mark) (ns : List Name) → Texts ps ns → Texts (drop i ps) ns
+texts-drop zero ps ns t = t
+texts-drop (suc i) [] ns t = t
+texts-drop (suc i) (p ∷ ps) ns t = texts-drop i ps ns (t .1)
+
+module _ {v : View} {l : Storage} {m : Machine} (s : Sees v l m) (o : Orderly m) where
+  return-law : (k : Container) (ks : List Container) (pss : List (List Mark)) (p : Mark) (ps : List Mark) (n : ℕ) → m .conts ≡ k ∷ ks
+      → Falling (k .object) (markAtStart k) (p ∷ ps) (markOf m n false) → p .text ≡ length (joined (take (p .names) (m .names)))
+      → Stored (returned v l p .counts) (returned v l p .storage) (backTo m k ks pss (p ∷ ps))
+  unfolding returned entriesReturned
+  return-law k ks pss p ps n e f x =
+      let t = s .stored in
+      let i : v .inner ≡ k = s .inner ∙ ap topOf e in
+      let low = falling-start (k .object) (markAtStart k) ps p (f .1) in
+      let a : p .value ≤ v .counts .value = (let c = t .value in omega (arith, f .0 .0)) in
+      let b : p .entries ≤ v .counts .entries = (let c = count-law s in omega (arith, f .0 .3)) in
+      let d : p .undo ≤ v .counts .undo = (let c = undo-law s in omega (arith, f .0 .4)) in
+      let bs : take (p .value) (l .value) ≡ take (p .value) (m .bytes) = before-mark (p .value) (v .counts .value) (l .value) (m .bytes) (t .bytes) a in
+      let n : length (take (p .value) (l .value)) ≡ p .value = (let w = t .within in length-take-le (p .value) (l .value) (omega arith)) in
+      let whole : Kept (v .counts .dictionary) (l .text) (l .ends) (take (p .names) (m .names) ++ drop (p .names) (m .names)) =
+      rw take-append-drop (t .names) in
+      let rs : entriesOf (l .undo) (p .undo) (v .counts .undo - p .undo) ≡ drop (p .undo) (m .undos) = used-from (t .undo) (p .undo) in
+      let es : entriesOf (l .entries) (k .entries) (p .entries - k .entries) ≡ take (p .entries - k .entries) (drop (k .entries) (m .entries)) =
+      used-between (used s) (k .entries) (p .entries) b in
+      let path = (λ z. let left = entriesOf (l .entries) (i z .entries) (p .entries - i z .entries) in
+      cond (i z .object) (putEntries (i z .entries) (replay (rs z) left) (l .entries)) (l .entries))
+      ∙ ap (λ y. cond (k .object) (putEntries (k .entries) (replay (drop (p .undo) (m .undos)) y) (l .entries)) (l .entries)) es in
+      record {
+        value = sym n ∙ ap length bs;
+        bytes = bs;
+        within = (let w = t .within in omega arith);
+        names = kept-back (take (p .names) (m .names)) (drop (p .names) (m .names)) whole (length-take-le (p .names) (m .names) (f .0 .1)) (sym x);
+        entries = used-by path refl (back-entries (used s) (k .object) (k .entries) (p .entries) (drop (p .undo) (m .undos)) (low .3) b);
+        undo = used-cut (t .undo) (p .undo) d;
         unique = t .unique;
         finished = t .finished;
         floor = t .floor;
@@ -709,9 +939,20 @@ back-size true (Replaced id o) v l = length-set (l .entries) (2 * (v .parent .en
 back-size false p v l = refl
 
 -- a fresh builder represents the machine with nothing in it
-pub represents-fresh : (s : State) → Fresh (s .builder)
-    → Represents s (record { bytes = []; names = []; entries = []; conts = []; elements = []; unique = s .builder .counts .unique; finished = false; floor = floorOf s })
-unfolding entriesOf stackOf
+pub represents-fresh : (s : State) → Fresh s
+    → Represents s (record {
+      bytes = [];
+      names = [];
+      entries = [];
+      undos = [];
+      conts = [];
+      elements = [];
+      chains = [];
+      unique = s .builder .counts .unique;
+      finished = false;
+      floor = floorOf s;
+    })
+unfolding entriesOf stackOf chainsOf
 represents-fresh s f =
     record {
       stored = record {
@@ -720,6 +961,7 @@ represents-fresh s f =
         within = rw (f .value) (omega arith);
         names = rw (f .dictionary) (kept-fresh (s .storage .text) (s .storage .ends));
         entries = record { all = rw (f .entries); room = rw (f .entries) (omega arith) };
+        undo = record { all = rw (f .undo); room = rw (f .undo) (omega arith) };
         unique = refl;
         finished = f .finished;
         floor = refl;
@@ -728,11 +970,13 @@ represents-fresh s f =
       elements = rw (f .depth);
       size = f .containers;
       sizes = f .elements;
+      chains = refl;
+      table = f .marks;
     }
 
 module _ {s : State} {m : Machine} (r : Represents s m) (o : Orderly m) where
   abbrev view : View
-  view = viewOf (s .builder)
+  view = viewAt s
 
   seen : Sees view (s .storage) m
   seen = sees r o
@@ -744,12 +988,12 @@ module _ {s : State} {m : Machine} (r : Represents s m) (o : Orderly m) where
   append-admits : (nm : Option Name) (x : Scalars) → numberOf view (s .storage) (append nm x) ≡ 0 → Admits view (s .storage) nm × (tooLongFor view (s .storage) (length (scalarBytes (scalarOf x))) ≡ false)
   append-admits nm x h =
       let k = append-at view (s .storage) nm x h in
-      (record { named = k 5; full = k 12; free = k 13 }, k 14)
+      (record { named = k 5; full = k 12; free = k 13; undos = k 23 }, k 14)
 
   open-admits : (nm : Option Name) (object : Bool) → numberOf view (s .storage) (openIn nm object) ≡ 0 → Admits view (s .storage) nm × (leb 64 (s .builder .counts .depth) ≡ false)
   open-admits nm object h =
       let k = clear (openIn nm object) h in
-      (record { named = k 5; full = k 12; free = k 13 }, k 11)
+      (record { named = k 5; full = k 12; free = k 13; undos = k 23 }, k 11)
 
   some-open : not (isOpen view) ≡ false → anyOpen (m .conts) ≡ true
   some-open h = sym (open-law seen) ∙ not-false _ h
@@ -760,25 +1004,51 @@ module _ {s : State} {m : Machine} (r : Represents s m) (o : Orderly m) where
   popped [] e h = absurd (true≢false (sym h))
   popped (k ∷ js) e h = let q = sym (stack-rest noContainer (s .builder .containers) (s .builder .counts .depth)) ∙ ap restOf (r .stack ∙ e) in (q, q)
 
-  -- or has another mark
-  remarked : (u : Bool) (js : List Container) → m .conts ≡ js → objectInner js ≡ true
-      → stackOf noContainer (set (s .builder .containers) (s .builder .counts .depth - 1) (step.withUnique (view .inner) u)) (s .builder .counts .depth) ≡ markAt u js
-  remarked u [] e h = absurd (true≢false (sym h))
-  remarked u (k ∷ js) e h =
-      let ks = s .builder .containers in
+  -- and its marks with it
+  popped-chains : (js : List Container) → m .conts ≡ js → anyOpen js ≡ true
+      → (chainsOf (s .marks) (closeAt m js .conts) ≡ closeAt m js .chains) × (chainsOf (s .marks) (rollAt m js .conts) ≡ rollAt m js .chains)
+  unfolding chainsOf
+  popped-chains [] e h = absurd (true≢false (sym h))
+  popped-chains (k ∷ js) e h = let q = ap restOf (sym (ap (chainsOf (s .marks)) e) ∙ r .chains) in (q, q)
+
+  -- or is another one
+  renewed : (x k : Container) (js : List Container) → m .conts ≡ k ∷ js
+      → stackOf noContainer (set (s .builder .containers) (s .builder .counts .depth - 1) x) (s .builder .counts .depth) ≡ x ∷ js
+  renewed x k js e =
       let d = s .builder .counts .depth in
       let a = represents-depth r ∙ ap length e in
       let b : length (k ∷ js) ≤ 64 = rw e at (o .depth) in
       let c = r .size in
-      let x = step.withUnique (view .inner) u in
-      let q = ap restOf (r .stack ∙ e) in
-      let i : view .inner ≡ k = seen .inner ∙ ap topOf e in
-      stack-renew noContainer ks d (d - 1) x (omega arith) (omega arith) ∙ (λ z. step.withUnique (i z) u ∷ q z)
+      stack-renew noContainer (s .builder .containers) d (d - 1) x (omega arith) (omega arith) ∙ ap (λ z. x ∷ z) (ap restOf (r .stack ∙ e))
+
+  inner-is : (k : Container) (js : List Container) → m .conts ≡ k ∷ js → view .inner ≡ k
+  inner-is k js e = seen .inner ∙ ap topOf e
+
+  -- of another uniqueness mark
+  remarked : (u : Bool) (js : List Container) → m .conts ≡ js → objectInner js ≡ true
+      → stackOf noContainer (set (s .builder .containers) (s .builder .counts .depth - 1) (step.withUnique (view .inner) u)) (s .builder .counts .depth)
+      ≡ setUniqueAt u js
+  remarked u [] e h = absurd (true≢false (sym h))
+  remarked u (k ∷ js) e h = renewed (step.withUnique (view .inner) u) k js e ∙ ap (λ z. step.withUnique z u ∷ js) (inner-is k js e)
+
+  remarked-chains : (u : Bool) (js : List Container) → m .conts ≡ js → chainsOf (s .marks) (setUniqueAt u js) ≡ m .chains
+  unfolding chainsOf step.withUnique
+  remarked-chains u [] e = sym (ap (chainsOf (s .marks)) e) ∙ r .chains
+  remarked-chains u (k ∷ js) e = sym (ap (chainsOf (s .marks)) e) ∙ r .chains
 
   -- ---- the elements
 
   elements-rest : stackOf 0 (s .builder .elements) (s .builder .counts .depth - 1) ≡ restOf (m .elements)
   elements-rest = sym (stack-rest 0 (s .builder .elements) (s .builder .counts .depth)) ∙ ap restOf (r .elements)
+
+  renewed-elements : (n : ℕ) → 0 < s .builder .counts .depth
+      → stackOf 0 (set (s .builder .elements) (s .builder .counts .depth - 1) n) (s .builder .counts .depth) ≡ n ∷ restOf (m .elements)
+  renewed-elements n h =
+      let d = s .builder .counts .depth in
+      let a = represents-depth r in
+      let b = o .depth in
+      let c = r .sizes in
+      stack-renew 0 (s .builder .elements) d (d - 1) n (omega arith) (omega arith) ∙ ap (λ z. n ∷ restOf z) (r .elements)
 
   closed-elements : (js : List Container) → anyOpen js ≡ true → stackOf 0 (s .builder .elements) (s .builder .counts .depth - 1) ≡ closeAt m js .elements
   closed-elements [] h = absurd (true≢false (sym h))
@@ -805,15 +1075,13 @@ module _ {s : State} {m : Machine} (r : Represents s m) (o : Orderly m) where
       one : 0 < d
       one = omega (arith, represents-depth r, ap length e)
 
-      within : d ≤ length ns
-      within = omega (arith, represents-depth r, o .depth, r .sizes)
-
       go : (t : Bool) → stackOf 0 (cond (not t) (set ns (d - 1) (view .elements + 1)) ns) d ≡ cond t (firstOf 0 (m .elements)) (firstOf 0 (m .elements) + 1) ∷ restOf (m .elements)
       go true = stack-first 0 ns d one ∙ (λ z. firstOf 0 (r .elements z) ∷ restOf (r .elements z))
-      go false = stack-renew 0 ns d (d - 1) (view .elements + 1) (let x = one in omega arith) within ∙ (λ z. (seen .elements z + 1) ∷ restOf (r .elements z))
+      go false = renewed-elements (view .elements + 1) one ∙ (λ z. (seen .elements z + 1) ∷ restOf (m .elements))
 
   -- with one less where a list's new child is rolled back
-  elements-less : (js : List Container) → m .conts ≡ js → anyOpen js ≡ true → stackOf 0 (elementsAfter view rollBack (s .builder .elements)) (s .builder .counts .depth - 1) ≡ rollAt m js .elements
+  elements-less : (js : List Container) → m .conts ≡ js → anyOpen js ≡ true
+      → stackOf 0 (elementsAfter view noMark rollBack (s .builder .elements)) (s .builder .counts .depth - 1) ≡ rollAt m js .elements
   unfolding oneLess
   elements-less [] e h = absurd (true≢false (sym h))
   elements-less (k ∷ []) e h =
@@ -858,18 +1126,113 @@ module _ {s : State} {m : Machine} (r : Represents s m) (o : Orderly m) where
   with-sizes : length (elementsWith view (s .builder .elements)) ≡ 64
   with-sizes = either-size (inList view) _ _ (length-set (s .builder .elements) (s .builder .counts .depth - 1) (view .elements + 1) ∙ r .sizes) (r .sizes)
 
-  back-sizes : length (elementsAfter view rollBack (s .builder .elements)) ≡ 64
+  back-sizes : length (elementsAfter view noMark rollBack (s .builder .elements)) ≡ 64
   back-sizes = either-size (ltb 1 (s .builder .counts .depth)) _ _ (go (view .inner .parent)) (r .sizes)
     where
       go : (p : ParentEntry) → length (elementsBack view p (s .builder .elements)) ≡ 64
       go New = either-size (view .parent .object) _ _ (r .sizes) (length-set (s .builder .elements) (s .builder .counts .depth - 2) (view .siblings - 1) ∙ r .sizes)
       go (Replaced id offset) = r .sizes
 
+  -- ---- marks
+
+  -- A MARK
+  represents-mark : (js : List Container) (pss : List (List Mark)) → m .conts ≡ js → m .chains ≡ pss → (not (anyOpen js) || leb 16 (marksAt js)) ≡ false
+      → Represents (after s setMark) (setAt m js pss)
+  unfolding after chainsOf
+  represents-mark [] pss e f h = absurd (true≢false h)
+  represents-mark (k ∷ ks) [] e f h = absurd (rw (e, f) at (o .falling))
+  represents-mark (k ∷ ks) (ps ∷ pss) e f h =
+      let t = r .stored in
+      let all : AllFalling (k ∷ ks) (ps ∷ pss) (m .elements) (markOf m 0 false) = rw (e, f) at (o .falling) in
+      let i = inner-is k ks e in
+      let x = withMarks (view .inner) (view .inner .marks + 1) in
+      let d : s .builder .counts .depth - 1 ≡ length ks = (let a = represents-depth r ∙ ap length e in omega arith) in
+      let few : length (k ∷ ks) ≤ 64 = rw e at (o .depth) in
+      let n = firstOf 0 (m .elements) in
+      let p : newMark view ≡ markOf m n (k .unique) = used-now t ∙ (λ z. markOf m (seen .elements z) (i z .unique)) in
+      let c : chainsOf (s .marks) (k ∷ ks) ≡ ps ∷ pss = sym (ap (chainsOf (s .marks)) e) ∙ (r .chains ∙ f) in
+      let q =
+      chains-set (s .marks) (markOf m n (k .unique)) k ks pss (restOf (m .elements)) (markOf m 0 false) (all .3) (leb-false 16 (k .marks) h)
+      (omega arith) (r .table) in
+      record {
+        stored = record {
+          value = t .value;
+          bytes = t .bytes;
+          within = t .within;
+          names = t .names;
+          entries = t .entries;
+          undo = t .undo;
+          unique = t .unique;
+          finished = t .finished;
+          floor = t .floor;
+        };
+        stack = renewed x k ks e ∙ ap (λ z. withMarks z (z .marks + 1) ∷ ks) i;
+        elements = r .elements;
+        size = length-set (s .builder .containers) (s .builder .counts .depth - 1) x ∙ r .size;
+        sizes = r .sizes;
+        chains =
+            (λ z. chainsOf (putMark (s .marks) (slotOf (d z) (i z .marks + 1)) (p z)) (withMarks k (k .marks + 1) ∷ ks))
+            ∙ (q ∙ set-chains k ks ps pss (markOf m n (k .unique)) c);
+        table = length-put-mark (s .marks) (slotOf (s .builder .counts .depth - 1) (view .inner .marks + 1)) (newMark view) ∙ r .table;
+      }
+    where
+      set-chains : (k : Container) (ks : List Container) (ps : List Mark) (pss : List (List Mark)) (p : Mark) → chainsOf (s .marks) (k ∷ ks) ≡ ps ∷ pss
+          → (p ∷ marksOf (s .marks) (length ks) (k .marks)) ∷ chainsOf (s .marks) ks ≡ (p ∷ ps) ∷ pss
+      set-chains k ks ps pss p c = λ z. (p ∷ head-eq-of-cons-eq c z) ∷ tail-eq-of-cons-eq c z
+
+  -- A RETURN
+  represents-return : (js : List Container) (pss : List (List Mark)) (j : ℕ) → m .conts ≡ js → m .chains ≡ pss
+      → (not (anyOpen js) || (eqb j 0 || ltb (marksAt js) j)) ≡ false
+      → Represents (after s (returnTo j)) (returnAt m js pss j)
+  unfolding after chainsOf marksOf returned step.withUnique withMarks
+  represents-return [] pss j e f h = absurd (true≢false h)
+  represents-return (k ∷ ks) [] j e f h = absurd (rw (e, f) at (o .falling))
+  represents-return (k ∷ ks) (ps ∷ pss) zero e f h = absurd (true≢false h)
+  represents-return (k ∷ ks) (ps ∷ pss) (suc n) e f h =
+      let ms = s .marks in
+      let all : AllFalling (k ∷ ks) (ps ∷ pss) (m .elements) (markOf m 0 false) = rw (e, f) at (o .falling) in
+      let texts : Texts ps (m .names) = rw f at (o .texts) in
+      let i = inner-is k ks e in
+      let d : s .builder .counts .depth - 1 ≡ length ks = (let a = represents-depth r ∙ ap length e in omega arith) in
+      let c : chainsOf ms (k ∷ ks) ≡ ps ∷ pss = sym (ap (chainsOf ms) e) ∙ (r .chains ∙ f) in
+      let nz : eqb (suc n) 0 ≡ false = ne-eqb (suc n) 0 (λ q. omega arith) in
+      let j : suc n ≤ k .marks = ltb-false (k .marks) (suc n) (rw nz at h) in
+      let count = all .1 in
+      let p = markAt ms (slotOf (length ks) (suc n)) in
+      let qs = marksOf ms (length ks) n in
+      let to : drop (length ps - suc n) ps ≡ p ∷ qs =
+      (λ z. drop (sym count z - suc n) (head-eq-of-cons-eq (sym c) z)) ∙ marks-to ms (length ks) (k .marks) (suc n) j in
+      let now = markOf m (firstOf 0 (m .elements)) false in
+      let fall : Falling (k .object) (markAtStart k) (p ∷ qs) now =
+      rw to at (falling-drop (length ps - suc n) (k .object) (markAtStart k) ps now (all .2)) in
+      let text : Texts (p ∷ qs) (m .names) = rw to at (texts-drop (length ps - suc n) ps (m .names) texts) in
+      let size : length (p ∷ qs) ≡ suc n = ap suc (length-marks ms (length ks) n) in
+      let pt : markTo view ms (returnTo (suc n)) ≡ p = ap (λ z. markAt ms (slotOf z (suc n))) d in
+      let q = markTo view ms (returnTo (suc n)) in
+      let x = withMarks (step.withUnique (view .inner) (q .unique)) (suc n) in
+      rw to (record {
+        stored = rw pt (return-law seen o k ks pss p qs (firstOf 0 (m .elements)) e fall (text .0));
+        stack = renewed x k ks e ∙ (λ z. withMarks (step.withUnique (i z) (pt z .unique)) (sym size z) ∷ ks);
+        elements = renewed-elements (q .count) (omega (arith, represents-depth r, ap length e)) ∙ (λ z. pt z .count ∷ restOf (m .elements));
+        size = length-set (s .builder .containers) (s .builder .counts .depth - 1) x ∙ r .size;
+        sizes = length-set (s .builder .elements) (s .builder .counts .depth - 1) (q .count) ∙ r .sizes;
+        chains = (λ z. marksOf ms (length ks) (size z) ∷ tail-eq-of-cons-eq c z);
+        table = r .table;
+      })
+
   -- a call that is carried out leaves a state that represents the machine after it
-  pub represents-step : (c : Call) → numberOf (viewOf (s .builder)) (s .storage) c ≡ 0 → Represents (after s c) (apply m c)
-  unfolding after registered appended opened closed rolledBack finished apply
+  pub represents-step : (c : Call) → numberOf (viewAt s) (s .storage) c ≡ 0 → Represents (after s c) (apply m c)
+  unfolding after registered appended opened newContainer closed rolledBack finished chainsOf marksOf apply
   represents-step (register n) h =
-      record { stored = register-law seen n (clear (register n) h 12); stack = r .stack; elements = r .elements; size = r .size; sizes = r .sizes }
+      record {
+        stored = register-law seen n (clear (register n) h 12);
+        stack = r .stack;
+        elements = r .elements;
+        size = r .size;
+        sizes = r .sizes;
+        chains = r .chains;
+        table = r .table;
+      }
   represents-step (append nm x) h =
       let a = append-admits nm x h in
       record {
@@ -878,6 +1241,8 @@ module _ {s : State} {m : Machine} (r : Represents s m) (o : Orderly m) where
         elements = elements-more (m .conts) refl;
         size = r .size;
         sizes = with-sizes;
+        chains = r .chains;
+        table = r .table;
       }
   represents-step (openIn nm object) h =
       let a = open-admits nm object h in
@@ -892,30 +1257,80 @@ module _ {s : State} {m : Machine} (r : Represents s m) (o : Orderly m) where
         elements = stack-set 0 ns d 0 (let y = with-sizes in omega (arith, leb-false 64 d (a .1))) ∙ ap (λ js. 0 ∷ js) (elements-more (m .conts) refl);
         size = length-set ks d x ∙ z;
         sizes = length-set ns d 0 ∙ with-sizes;
+        chains = ap (λ y. [] ∷ y) (r .chains);
+        table = r .table;
       }
   represents-step close h =
       let e = some-open (clear close h 3) in
-      record { stored = close-law seen o (m .conts) refl e (clear close h 14); stack = popped (m .conts) refl e .0; elements = closed-elements (m .conts) e; size = r .size; sizes = r .sizes }
+      record {
+        stored = close-law seen o (m .conts) refl e (clear close h 14);
+        stack = popped (m .conts) refl e .0;
+        elements = closed-elements (m .conts) e;
+        size = r .size;
+        sizes = r .sizes;
+        chains = popped-chains (m .conts) refl e .0;
+        table = r .table;
+      }
   represents-step rollBack h =
       let e = some-open (clear rollBack h 3) in
-      record { stored = roll-law seen o (m .conts) refl e; stack = popped (m .conts) refl e .1; elements = elements-less (m .conts) refl e; size = r .size; sizes = back-sizes }
+      record {
+        stored = roll-law seen o (m .conts) refl e;
+        stack = popped (m .conts) refl e .1;
+        elements = elements-less (m .conts) refl e;
+        size = r .size;
+        sizes = back-sizes;
+        chains = popped-chains (m .conts) refl e .1;
+        table = r .table;
+      }
   represents-step (uniqueness u) h =
       let t = r .stored in
       record {
-        stored = record { value = t .value; bytes = t .bytes; within = t .within; names = t .names; entries = t .entries; unique = t .unique; finished = t .finished; floor = t .floor };
+        stored = record {
+          value = t .value;
+          bytes = t .bytes;
+          within = t .within;
+          names = t .names;
+          entries = t .entries;
+          undo = t .undo;
+          unique = t .unique;
+          finished = t .finished;
+          floor = t .floor;
+        };
         stack = remarked u (m .conts) refl (sym (in-law seen) ∙ not-false _ (clear (uniqueness u) h 3));
         elements = r .elements;
-        sizes = r .sizes;
         size = length-set (s .builder .containers) (s .builder .counts .depth - 1) (step.withUnique (view .inner) u) ∙ r .size;
+        sizes = r .sizes;
+        chains = remarked-chains u (m .conts) refl;
+        table = r .table;
       }
-  represents-step (finish out) h = record { stored = finish-law seen out; stack = r .stack; elements = r .elements; size = r .size; sizes = r .sizes }
+  represents-step setMark h =
+      represents-mark (m .conts) (m .chains) refl refl (sym (λ i. not (open-law seen i) || leb 16 (marks-law seen i)) ∙ clear setMark h 22)
+  represents-step (returnTo j) h =
+      represents-return (m .conts) (m .chains) j refl refl
+      (sym (λ i. not (open-law seen i) || (eqb j 0 || ltb (marks-law seen i) j)) ∙ clear (returnTo j) h 22)
+  represents-step (finish out) h =
+      record {
+        stored = finish-law seen out;
+        stack = r .stack;
+        elements = r .elements;
+        size = r .size;
+        sizes = r .sizes;
+        chains = r .chains;
+        table = r .table;
+      }
 
   -- and the lent lists are as long as before
-  pub represents-lent : (c : Call) → numberOf (viewOf (s .builder)) (s .storage) c ≡ 0 → lentBy (after s c .storage) ≡ lentBy (s .storage)
-  unfolding after registered appended opened closed entriesClosed rolledBack
+  pub represents-lent : (c : Call) → numberOf (viewAt s) (s .storage) c ≡ 0 → lentBy (after s c .storage) ≡ lentBy (s .storage)
+  unfolding after registered appended opened closed entriesClosed rolledBack returned entriesReturned
   represents-lent (register n) h =
       let w = names-with seen (some n) (clear (register n) h 12) in
-      λ i. record { value = length (s .storage .value); text = w .text-size i; ends = w .ends-size i; entries = length (s .storage .entries) }
+      λ i. record {
+        value = length (s .storage .value);
+        text = w .text-size i;
+        ends = w .ends-size i;
+        entries = length (s .storage .entries);
+        undo = length (s .storage .undo);
+      }
   represents-lent (append nm x) h =
       let k = append-admits nm x h in
       let bs = scalarBytes (scalarOf x) in
@@ -923,22 +1338,44 @@ module _ {s : State} {m : Machine} (r : Represents s m) (o : Orderly m) where
       let w = names-with seen nm (k .0 .full) in
       let a = length-write (s .builder .counts .value) bs (s .storage .value) (omega arith) in
       let b = entries-size seen o nm (k .0 .named) in
-      λ i. record { value = a i; text = w .text-size i; ends = w .ends-size i; entries = b i }
+      let g = undo-size seen o nm (k .0 .named) in
+      λ i. record { value = a i; text = w .text-size i; ends = w .ends-size i; entries = b i; undo = g i }
   represents-lent (openIn nm object) h =
       let k = open-admits nm object h in
       let w = names-with seen nm (k .0 .full) in
       let b = entries-size seen o nm (k .0 .named) in
-      λ i. record { value = length (s .storage .value); text = w .text-size i; ends = w .ends-size i; entries = b i }
+      let g = undo-size seen o nm (k .0 .named) in
+      λ i. record { value = length (s .storage .value); text = w .text-size i; ends = w .ends-size i; entries = b i; undo = g i }
   represents-lent close h =
       let f = fits-law seen (length (header view (s .storage))) (clear close h 14) in
       let w = innermost-law seen o in
       let a = length-fronted (view .inner .value) (s .builder .counts .value) (header view (s .storage)) (s .storage .value) (w .value) (omega arith) in
       let b = put-size (view .inner .object) (view .inner .entries) (sort (namesHeld view (s .storage)) (innerEntries view (s .storage))) (s .storage .entries) in
-      λ i. record { value = a i; text = length (s .storage .text); ends = length (s .storage .ends); entries = b i }
+      λ i. record { value = a i; text = length (s .storage .text); ends = length (s .storage .ends); entries = b i; undo = length (s .storage .undo) }
   represents-lent rollBack h =
       let b = back-size (ltb 1 (s .builder .counts .depth)) (view .inner .parent) view (s .storage) in
-      λ i. record { value = length (s .storage .value); text = length (s .storage .text); ends = length (s .storage .ends); entries = b i }
+      λ i. record {
+        value = length (s .storage .value);
+        text = length (s .storage .text);
+        ends = length (s .storage .ends);
+        entries = b i;
+        undo = length (s .storage .undo);
+      }
   represents-lent (uniqueness u) h = refl
+  represents-lent setMark h = refl
+  represents-lent (returnTo j) h =
+      let p = markTo view (s .marks) (returnTo j) in
+      let k = view .inner in
+      let left = entriesOf (s .storage .entries) (k .entries) (p .entries - k .entries) in
+      let records = entriesOf (s .storage .undo) (p .undo) (s .builder .counts .undo - p .undo) in
+      let b = put-size (k .object) (k .entries) (replay records left) (s .storage .entries) in
+      λ i. record {
+        value = length (s .storage .value);
+        text = length (s .storage .text);
+        ends = length (s .storage .ends);
+        entries = b i;
+        undo = length (s .storage .undo);
+      }
   represents-lent (finish out) h = refl
 
 -- ---- what a run gives
@@ -949,30 +1386,34 @@ unfolding valueBytes
 represents-value r = r .stored .bytes
 
 -- the dictionary
-pub represents-dictionary : {s : State} {m : Machine} → Represents s m → dictionaryOf (viewOf (s .builder)) (s .storage) ≡ dictionary (m .floor) (m .names)
+pub represents-dictionary : {s : State} {m : Machine} → Represents s m → dictionaryOf (viewAt s) (s .storage) ≡ dictionary (m .floor) (m .names)
 unfolding dictionaryOf
 represents-dictionary r i = dictionary (r .stored .floor i) (r .stored .names .holds .names i)
 
 -- its size
-pub represents-size : {s : State} {m : Machine} → Represents s m → length (dictionaryOf (viewOf (s .builder)) (s .storage)) ≡ sizeOf (m .floor) (length (m .names)) (length (joined (m .names)))
+pub represents-size : {s : State} {m : Machine} → Represents s m
+    → length (dictionaryOf (viewAt s) (s .storage)) ≡ sizeOf (m .floor) (length (m .names)) (length (joined (m .names)))
 represents-size {m = m} r = ap length (represents-dictionary r) ∙ dictionary-size (m .floor) (m .names)
 
 -- what an accepted finish wrote, and nothing behind it
 pub record WritesDictionary (s : State) (m : Machine) (out : List ℕ) : Type 0 where
   pub fits : sizeOf (m .floor) (length (m .names)) (length (joined (m .names))) ≤ counted (length out)
-  pub long : length (write 0 (dictionaryOf (viewOf (s .builder)) (s .storage)) out) ≡ length out
-  pub front : take (length (dictionaryOf (viewOf (s .builder)) (s .storage))) (write 0 (dictionaryOf (viewOf (s .builder)) (s .storage)) out) ≡ dictionary (m .floor) (m .names)
-  pub behind : drop (length (dictionaryOf (viewOf (s .builder)) (s .storage))) (write 0 (dictionaryOf (viewOf (s .builder)) (s .storage)) out) ≡ drop (length (dictionaryOf (viewOf (s .builder)) (s .storage))) out
+  pub long : length (write 0 (dictionaryOf (viewAt s) (s .storage)) out) ≡ length out
+  pub front : take (length (dictionaryOf (viewAt s) (s .storage))) (write 0 (dictionaryOf (viewAt s) (s .storage)) out) ≡ dictionary (m .floor) (m .names)
+  pub behind : drop (length (dictionaryOf (viewAt s) (s .storage))) (write 0 (dictionaryOf (viewAt s) (s .storage)) out)
+      ≡ drop (length (dictionaryOf (viewAt s) (s .storage))) out
   pub many : length (m .names) < 256 ^ 4
   pub text : length (joined (m .names)) < 256 ^ 4
   pub read : dictionaryNames (dictionary (m .floor) (m .names)) ≡ m .names
 
-pub represents-finish : {s : State} {m : Machine} → Represents s m → (out : List ℕ) → numberOf (viewOf (s .builder)) (s .storage) (finish out) ≡ 0 → WritesDictionary s m out
+pub represents-finish : {s : State} {m : Machine} → Represents s m → (out : List ℕ) → numberOf (viewAt s) (s .storage) (finish out) ≡ 0
+    → WritesDictionary s m out
 represents-finish {s} {m} r out h =
-    let bs = dictionaryOf (viewOf (s .builder)) (s .storage) in
+    let bs = dictionaryOf (viewAt s) (s .storage) in
     let d = r .stored .names .holds in
     let ns = m .names in
-    let f : sizeOf (m .floor) (length ns) (length (joined ns)) ≤ counted (length out) = rw (d .count, d .total, ← r .stored .floor) (leb-true _ _ (not-false _ (none-at (viewOf (s .builder)) (s .storage) (finish out) h 16))) in
+    let f : sizeOf (m .floor) (length ns) (length (joined ns)) ≤ counted (length out) =
+    rw (d .count, d .total, ← r .stored .floor) (leb-true _ _ (not-false _ (none-at (viewAt s) (s .storage) (finish out) h 16))) in
     let n = represents-size r in
     let least = size-least (m .floor) (length ns) (length (joined ns)) in
     let a : length ns < 256 ^ 4 = omega arith in

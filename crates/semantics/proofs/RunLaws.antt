@@ -9,7 +9,7 @@ use lib.ListN.{take}
 use borrow.Author.Tests.{eqb-true, eqb-false}
 use Rattle.encoding.specs.Rows.{first, testOf, Clear, order, inOrder}
 use Rattle.encoding.proofs.RowsLaws.{first-none, clear-at}
-use Rattle.semantics.specs.Record.{State, viewOf, fixed, civil, packed, bytes, uuid, Call, register, append, openIn, close, rollBack, uniqueness, finish}
+use Rattle.semantics.specs.Record.{State, viewAt, fixed, civil, packed, bytes, uuid, Call, register, append, openIn, close, rollBack, uniqueness, setMark, returnTo, finish}
 use Rattle.semantics.specs.Step.{step, after, outputOf, writtenBy}
 use Rattle.semantics.specs.History.{accepted, fed}
 use Rattle.semantics.specs.Ledger.{Lent, Account, refusalOf}
@@ -33,6 +33,8 @@ rows-in-order m lent (openIn nm k) = refl
 rows-in-order m lent close = refl
 rows-in-order m lent rollBack = refl
 rows-in-order m lent (uniqueness u) = refl
+rows-in-order m lent setMark = refl
+rows-in-order m lent (returnTo j) = refl
 rows-in-order m lent (finish out) = refl
 
 -- number 0 says that no row's test holds
@@ -42,7 +44,7 @@ rows-clear m lent c e = first-none order (rowsAt m lent c) (rows-in-order m lent
 
 -- what a call that is carried out gives
 pub step-done : (s : State) (c : Call) → step s c .number ≡ 0
-    → step s c ≡ record { number = 0; state = after s c; output = outputOf (viewOf (s .builder)) (s .storage) c; written = writtenBy (viewOf (s .builder)) (s .storage) c }
+    → step s c ≡ record { number = 0; state = after s c; output = outputOf (viewAt s) (s .storage) c; written = writtenBy (viewAt s) (s .storage) c }
 unfolding step
 step-done s c e = let n = sym (step-number s c) ∙ e in rw n
 
@@ -61,10 +63,22 @@ pub record Follows (lent : Lent) (s : State) (a : Account) : Type 0 where
   pub room : lentBy (s .storage) ≡ lent
 
 -- A FRESH BUILDER
-pub follows-fresh : (s : State) → Fresh (s .builder) → Follows (lentBy (s .storage)) s (noAccount (s .builder .counts .unique) (floorOf s))
+pub follows-fresh : (s : State) → Fresh s → Follows (lentBy (s .storage)) s (noAccount (s .builder .counts .unique) (floorOf s))
 follows-fresh s f =
     record {
-      machine = record { bytes = []; names = []; entries = []; conts = []; elements = []; unique = s .builder .counts .unique; finished = false; floor = floorOf s };
+      machine =
+          record {
+            bytes = [];
+            names = [];
+            entries = [];
+            undos = [];
+            conts = [];
+            elements = [];
+            chains = [];
+            unique = s .builder .counts .unique;
+            finished = false;
+            floor = floorOf s;
+          };
       represents = represents-fresh s f;
       linked = linked-fresh (s .builder .counts .unique) (floorOf s) (f .floor);
       room = refl;
@@ -117,7 +131,7 @@ follows-from x [] = x
 follows-from x (c ∷ cs) = follows-from (follows-step x c) cs
 
 -- THE RUN: after every list of calls from a fresh builder.
-pub follows-run : (s : State) (cs : List Call) → Fresh (s .builder) → Follows (lentBy (s .storage)) (run s cs) (accountOf s cs)
+pub follows-run : (s : State) (cs : List Call) → Fresh s → Follows (lentBy (s .storage)) (run s cs) (accountOf s cs)
 unfolding accountOf
 follows-run s cs f = follows-from (follows-fresh s f) cs
 
@@ -152,6 +166,8 @@ finished-number a lent (openIn nm k) e = rw e
 finished-number a lent close e = rw e
 finished-number a lent rollBack e = rw e
 finished-number a lent (uniqueness u) e = rw e
+finished-number a lent setMark e = rw e
+finished-number a lent (returnTo j) e = rw e
 finished-number a lent (finish out) e = rw e
 
 -- so that nothing changes any more
@@ -205,6 +221,8 @@ ends-here x (openIn nm k) cs e = absurd (true≢false (sym e))
 ends-here x close cs e = absurd (true≢false (sym e))
 ends-here x rollBack cs e = absurd (true≢false (sym e))
 ends-here x (uniqueness u) cs e = absurd (true≢false (sym e))
+ends-here x setMark cs e = absurd (true≢false (sym e))
+ends-here x (returnTo j) cs e = absurd (true≢false (sym e))
 ends-here {s = s} {a = a} x (finish out) cs e =
     let c = finish out in
     let n = eqb-true (step s c .number) 0 e in

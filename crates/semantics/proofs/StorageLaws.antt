@@ -1,7 +1,7 @@
--- Lent lists, the entries in them, the open containers and their elements, read as the machine has them.
+-- Lent lists, the entries in them, the open containers with their elements and marks, read as the machine has them.
 use mathlib.Core.Path.{_≡_, refl, sym, _∙_, ap}
-use mathlib.Core.Logic.{inl, inr, _≢_}
-use mathlib.Core.Bool.{Bool, true, false, cond, not, _&&_}
+use mathlib.Core.Logic.{inr, _≢_}
+use mathlib.Core.Bool.{Bool, true, false, cond, not, _&&_, _||_}
 use mathlib.Core.List.{List, [], _∷_, _++_, append-assoc}
 use Prim.Native.Nat.{ℕ, zero, suc, _+_, _-_, _*_, _≤_, _<_}
 use native.Mathlib.Nat.{add-zero, zero-add, sub-zero}
@@ -9,16 +9,21 @@ use native.Mathlib.Omega.{arith}
 use lib.Dec.{eqb, leb, ltb}
 use lib.ListN.{drop, getD, length, length-append, length-drop, length-set, length-take, set, take}
 use lib.Seq.{drop-at, getD-set-other, getD-set-same, take-at}
-use borrow.Author.Tests.{le-leb, lt-leb, lt-ltb, ltb-true, ltb-false, ne-eqb}
+use borrow.Author.Tests.{le-leb, leb-true, lt-leb, lt-ltb, ltb-true, ltb-false, ne-eqb}
 use Rattle.encoding.specs.Slices.{write}
 use Rattle.encoding.proofs.PackedLaws.{Below}
 use Rattle.container.specs.declared.Entry.{Entry}
-use Rattle.container.specs.Entries.{entriesOf, entryAt, idsOf, misplaced, putEntries, roomFor, seek, setEntry}
-use Rattle.container.proofs.EntryLaws.{Apart, length-set-entry, entry-set-same, set-entry-offset, length-entries, entries-append, entries-set-other, ids-bounded, length-put, entries-put-other}
+use Rattle.container.specs.Entries.{entriesOf, idsOf, misplaced, putEntries, roomFor, seek, setEntry}
+use Rattle.container.specs.Undo.{restore}
+use Rattle.container.proofs.EntryLaws.{length-set-entry, entry-set-same, length-entries, entries-append, entries-set-other, ids-bounded, length-put, entries-put-other, entries-put-same}
+use Rattle.container.proofs.UndoLaws.{offset-other, entries-restored}
 use Rattle.semantics.specs.declared.Container.{Container}
+use Rattle.semantics.specs.declared.Counts.{Counts}
+use Rattle.semantics.specs.declared.Mark.{Mark}
 use Rattle.semantics.specs.declared.ParentEntry.the-variants.{New, Replaced}
-use Rattle.semantics.specs.Record.{noContainer, containerAt, elementsAt, under, countable, rising, chained}
-use Rattle.semantics.proofs.Machine.{put, find, firstOf, restOf, Rising, Counting}
+use Rattle.semantics.specs.Record.{tableSize, noContainer, containerAt, elementsAt, under, countable, rising, chained, slotOf, markAt, marksOf, markAtStart, markNow, notAbove, falling, marksHold}
+use Rattle.semantics.specs.Step.{withMarks, putMark}
+use Rattle.semantics.proofs.Machine.{put, find, firstOf, restOf, Rising, Counting, NotAbove, Falling, AllFalling}
 
 -- ---- tests
 
@@ -63,36 +68,18 @@ entries-take l a (suc k) (suc n) h = rw (entries-take l (a + 1) k n (omega arith
 
 -- ---- an entry found, moved or added
 
--- an offset set elsewhere
-pub offset-other : (l : List ℕ) (j o k n : ℕ) → Apart j 1 k n → entriesOf (set l (2 * j + 1) o) k n ≡ entriesOf l k n
-offset-other l j o k n a = ap (λ z. entriesOf z k n) (sym (set-entry-offset l j o)) ∙ entries-set-other l j k n _ a
-
 module _ (i o : ℕ) where
   -- moved where it stands
-  pub entries-moved : (l : List ℕ) (k n : ℕ) → seek i (entriesOf l k n) < n → 2 * (k + n) ≤ length l
-      → entriesOf (set l (2 * (k + seek i (entriesOf l k n)) + 1) o) k n ≡ put i o (entriesOf l k n)
-  unfolding entriesOf seek put
-  entries-moved l k zero h r = absurd (omega arith)
-  entries-moved l k (suc n) h r = go (eqb (getD l (2 * k) 0) i) refl h (entries-moved l (k + 1) n)
+  pub put-there : (es : List Entry) → seek i es < length es → restore (record { id = i; offset = o }) es ≡ put i o es
+  unfolding seek restore put
+  put-there [] h = absurd (omega arith)
+  put-there (e ∷ es) h = go (eqb (e .id) i) h (put-there es)
     where
-      s : ℕ
-      s = seek i (entriesOf l (k + 1) n)
-
-      go : (t : Bool) → eqb (getD l (2 * k) 0) i ≡ t → cond t 0 (1 + s) < suc n
-          → (s < n → 2 * (k + 1 + n) ≤ length l → entriesOf (set l (2 * (k + 1 + s) + 1) o) (k + 1) n ≡ put i o (entriesOf l (k + 1) n))
-          → entriesOf (set l (2 * (k + cond t 0 (1 + s)) + 1) o) k (suc n)
-          ≡ cond t (record { id = getD l (2 * k) 0; offset = o } ∷ entriesOf l (k + 1) n) (entryAt l k ∷ put i o (entriesOf l (k + 1) n))
-      go true p h f =
-          let a : 2 * k ≢ 2 * k + 1 = (λ q. omega arith) in
-          let b : 2 * k + 1 < length l = omega arith in
-          let q = offset-other l k o (k + 1) n (inl (omega arith)) in
-          rw (add-zero, q, getD-set-other l (2 * k + 1) (2 * k) o 0 a, getD-set-same l (2 * k + 1) o 0 b)
-      go false p h f =
-          let a : 2 * k ≢ 2 * (k + 1 + s) + 1 = (λ q. omega arith) in
-          let b : 2 * k + 1 ≢ 2 * (k + 1 + s) + 1 = (λ q. omega arith) in
-          let e : k + (1 + s) ≡ k + 1 + s = omega arith in
-          let j = 2 * (k + 1 + s) + 1 in
-          rw (e, f (omega arith) (omega arith), getD-set-other l j (2 * k) o 0 a, getD-set-other l j (2 * k + 1) o 0 b)
+      go : (t : Bool) → cond t 0 (1 + seek i es) < suc (length es) → (seek i es < length es → restore (record { id = i; offset = o }) es ≡ put i o es)
+          → cond t (record { id = e .id; offset = o } ∷ es) (e ∷ restore (record { id = i; offset = o }) es)
+          ≡ cond t (record { id = e .id; offset = o } ∷ es) (e ∷ put i o es)
+      go true h f = refl
+      go false h f = ap (λ z. e ∷ z) (f (omega arith))
 
   -- one that is not there is added
   pub put-new : (es : List Entry) → seek i es ≡ length es → put i o es ≡ es ++ (record { id = i; offset = o } ∷ [])
@@ -168,7 +155,8 @@ module _ {l : List ℕ} {n : ℕ} {es : List Entry} (u : Used l n es) where
       let e : k + (n - k) ≡ n = omega arith in
       let m = set l (2 * (k + seek i (drop k es)) + 1) o in
       let g : seek i (entriesOf l k (n - k)) < n - k = rw d (omega (arith, length-drop k es)) in
-      let w : entriesOf m k (n - k) ≡ put i o (drop k es) = rw d at (entries-moved i o l k (n - k) g (omega arith)) in
+      let w : entriesOf m k (n - k) ≡ put i o (drop k es) =
+      rw d at (entries-restored (record { id = i; offset = o }) l k (n - k) g (omega arith)) ∙ put-there i o (drop k es) f in
       let p : entriesOf m 0 k ≡ take k es = offset-other l (k + seek i (drop k es)) o 0 k (inr (omega arith)) ∙ used-before k h in
       let q : entriesOf m 0 n ≡ entriesOf m 0 k ++ entriesOf m k (n - k) = rw (e, zero-add k) at (entries-append m 0 k (n - k)) in
       record { all = q ∙ (λ j. p j ++ w j); room = rw length-set r }
@@ -184,6 +172,14 @@ module _ {l : List ℕ} {n : ℕ} {es : List Entry} (u : Used l n es) where
   -- the first k, where others were written behind them
   pub used-kept : (k : ℕ) (fs : List Entry) → k ≤ n → Used (putEntries k fs l) k (take k es)
   used-kept k fs h = let r = u .room in record { all = entries-put-other k fs l 0 k (inr (omega arith)) ∙ used-before k h; room = rw length-put (omega arith) }
+
+  -- others in place of those from k on
+  pub used-put : (k : ℕ) (fs : List Entry) → k + length fs ≤ n → Used (putEntries k fs l) (k + length fs) (take k es ++ fs)
+  used-put k fs h =
+      let r = u .room in
+      let p = entries-put-other k fs l 0 k (inr (omega arith)) ∙ used-before k (omega arith) in
+      let q = entries-put-same k fs l (omega arith) in
+      record { all = entries-append (putEntries k fs l) 0 k (length fs) ∙ (rw zero-add (λ j. p j ++ q j)); room = rw length-put (omega arith) }
 
 -- ---- the open containers, and their elements
 
@@ -252,23 +248,232 @@ module _ {A : Type 0} (z : A) where
       rw (r, e) (stack-set xs j x (omega arith))
 
 -- no mark falls, and no list counts too much
-pub stack-chained : (ks : List Container) (ns : List ℕ) (d a b c e child : ℕ) → Rising (stackOf noContainer ks d) a b c e → Counting (stackOf noContainer ks d) (stackOf 0 ns d) a child → d ≤ 64
-    → chained ks ns d ≡ true
+pub stack-chained : (ks : List Container) (ns : List ℕ) (d a b c e w child : ℕ) → Rising (stackOf noContainer ks d) a b c e w
+    → Counting (stackOf noContainer ks d) (stackOf 0 ns d) a child → d ≤ 64 → chained ks ns d ≡ true
 unfolding chained rising stackOf
-stack-chained ks ns d a b c e child r w h = rw (le-leb d 64 h) (go d a b c e child r w)
+stack-chained ks ns d a b c e w child r q h = rw (le-leb d 64 h) (go d a b c e w child r q)
   where
-    all : (s t u v : Bool) → s ≡ true → t ≡ true → u ≡ true → v ≡ true → (s && (t && (u && v))) ≡ true
-    all s t u v p q r w = rw (p, q, r, w)
+    all : (s t u v x : Bool) → s ≡ true → t ≡ true → u ≡ true → v ≡ true → x ≡ true → (s && (t && (u && (v && x)))) ≡ true
+    all s t u v x p q r w y = rw (p, q, r, w, y)
 
-    go : (d a b c e child : ℕ) → Rising (stackOf noContainer ks d) a b c e → Counting (stackOf noContainer ks d) (stackOf 0 ns d) a child → rising ks ns (d - 1) ≡ true
-    go zero a b c e child r w = refl
-    go (suc zero) a b c e child r w = refl
-    go (suc (suc d)) a b c e child r w =
+    go : (d a b c e w child : ℕ) → Rising (stackOf noContainer ks d) a b c e w → Counting (stackOf noContainer ks d) (stackOf 0 ns d) a child
+        → rising ks ns (d - 1) ≡ true
+    go zero a b c e w child r q = refl
+    go (suc zero) a b c e w child r q = refl
+    go (suc (suc d)) a b c e w child r q =
         let k = containerAt ks d in
         let j = containerAt ks (suc d) in
-        let x = r .4 in
+        let x = r .5 in
         let g : suc (suc d) - 1 ≡ suc d = omega arith in
         let f : suc d - 1 ≡ d = omega arith in
-        let u : under k j ≡ true = all _ _ _ _ (le-leb (k .value) (j .value) (x .0)) (le-leb (k .names) (j .names) (x .1)) (le-leb (k .text) (j .text) (x .2)) (le-leb (k .entries) (j .entries) (x .3)) in
-        let n : countable k (elementsAt ns d) (j .value - k .value + 1) ≡ true = w .1 .0 in
-        rw g (rw (u, n) (rw f at (go (suc d) (j .value) (j .names) (j .text) (j .entries) 1 x (w .1))))
+        let u : under k j ≡ true =
+        all _ _ _ _ _ (le-leb (k .value) (j .value) (x .0)) (le-leb (k .names) (j .names) (x .1)) (le-leb (k .text) (j .text) (x .2))
+        (le-leb (k .entries) (j .entries) (x .3)) (le-leb (k .undo) (j .undo) (x .4)) in
+        let n : countable k (elementsAt ns d) (j .value - k .value + 1) ≡ true = q .1 .0 in
+        rw g (rw (u, n) (rw f at (go (suc d) (j .value) (j .names) (j .text) (j .entries) (j .undo) 1 x (q .1))))
+
+-- ---- the marks of the open containers
+
+-- each container's at its depth
+unfoldable pub chainsOf : List ℕ → List Container → List (List Mark)
+chainsOf ms [] = []
+chainsOf ms (k ∷ ks) = marksOf ms (length ks) (k .marks) ∷ chainsOf ms ks
+
+not-above : (object : Bool) (p q : Mark) → NotAbove object p q → notAbove object p q ≡ true
+not-above object p q f =
+    all _ _ _ _ _ _ (le-leb (p .value) (q .value) (f .0)) (le-leb (p .names) (q .names) (f .1)) (le-leb (p .text) (q .text) (f .2))
+    (le-leb (p .entries) (q .entries) (f .3)) (le-leb (p .undo) (q .undo) (f .4)) (f .5)
+  where
+    all : (s t u v x z : Bool) → s ≡ true → t ≡ true → u ≡ true → v ≡ true → x ≡ true → z ≡ true → (s && (t && (u && (v && (x && z))))) ≡ true
+    all s t u v x z a b c d e f = rw (a, b, c, d, e, f)
+
+falling-holds : (object : Bool) (start : Mark) (ps : List Mark) (now : Mark) → Falling object start ps now → falling object start ps now ≡ true
+unfolding falling
+falling-holds object start [] now f = not-above object start now f
+falling-holds object start (p ∷ ps) now f = rw (not-above object p now (f .0)) (falling-holds object start ps p (f .1))
+
+-- none exceeds the counts; the uniqueness mark is nothing to it
+pub stack-marks : (ks : List Container) (ns ms : List ℕ) (c : Counts) (d : ℕ)
+    → AllFalling (stackOf noContainer ks d) (chainsOf ms (stackOf noContainer ks d)) (stackOf 0 ns d) (markNow c 0 false) → marksHold ks ns ms c d ≡ true
+unfolding marksHold stackOf chainsOf
+stack-marks ks ns ms c zero f = refl
+stack-marks ks ns ms c (suc d) f =
+    let k = containerAt ks d in
+    let n = elementsAt ns d in
+    let g : Falling (k .object) (markAtStart k) (marksOf ms d (k .marks)) (markNow c n false) = rw (length-stack noContainer ks d) at (f .2) in
+    let h = falling-holds (k .object) (markAtStart k) (marksOf ms d (k .marks)) (markNow c n (k .unique)) (other k n (marksOf ms d (k .marks)) g) in
+    rw (le-leb (k .marks) 16 (f .0), h, or-true (eqb (k .marks) 0)) (stack-marks ks ns ms c d (f .3))
+  where
+    other : (k : Container) (n : ℕ) (ps : List Mark) → Falling (k .object) (markAtStart k) ps (markNow c n false)
+        → Falling (k .object) (markAtStart k) ps (markNow c n (k .unique))
+    other k n [] f = f
+    other k n (p ∷ ps) f = f
+
+    or-true : (t : Bool) → (t || true) ≡ true
+    or-true true = refl
+    or-true false = refl
+
+-- ---- a mark set
+
+module _ (ms : List ℕ) (at : ℕ) (p : Mark) where
+  abbrev u : ℕ
+  u = cond (p .unique) 1 0
+
+  abbrev l0 : List ℕ
+  l0 = set ms at (p .value)
+
+  abbrev l1 : List ℕ
+  l1 = set l0 (at + 1) (p .names)
+
+  abbrev l2 : List ℕ
+  l2 = set l1 (at + 2) (p .text)
+
+  abbrev l3 : List ℕ
+  l3 = set l2 (at + 3) (p .entries)
+
+  abbrev l4 : List ℕ
+  l4 = set l3 (at + 4) (p .undo)
+
+  abbrev l5 : List ℕ
+  l5 = set l4 (at + 5) (p .count)
+
+  -- a number before the one set
+  at5 : (i : ℕ) → i < at + 6 → getD (set l5 (at + 6) u) i 0 ≡ getD l5 i 0
+  at5 i h = getD-set-other l5 (at + 6) i u 0 (λ q. omega arith)
+
+  at4 : (i : ℕ) → i < at + 5 → getD (set l5 (at + 6) u) i 0 ≡ getD l4 i 0
+  at4 i h = at5 i (omega arith) ∙ getD-set-other l4 (at + 5) i (p .count) 0 (λ q. omega arith)
+
+  at3 : (i : ℕ) → i < at + 4 → getD (set l5 (at + 6) u) i 0 ≡ getD l3 i 0
+  at3 i h = at4 i (omega arith) ∙ getD-set-other l3 (at + 4) i (p .undo) 0 (λ q. omega arith)
+
+  at2 : (i : ℕ) → i < at + 3 → getD (set l5 (at + 6) u) i 0 ≡ getD l2 i 0
+  at2 i h = at3 i (omega arith) ∙ getD-set-other l2 (at + 3) i (p .entries) 0 (λ q. omega arith)
+
+  at1 : (i : ℕ) → i < at + 2 → getD (set l5 (at + 6) u) i 0 ≡ getD l1 i 0
+  at1 i h = at2 i (omega arith) ∙ getD-set-other l1 (at + 2) i (p .text) 0 (λ q. omega arith)
+
+  at0 : (i : ℕ) → i < at + 1 → getD (set l5 (at + 6) u) i 0 ≡ getD l0 i 0
+  at0 i h = at1 i (omega arith) ∙ getD-set-other l0 (at + 1) i (p .names) 0 (λ q. omega arith)
+
+  mark-before : (i : ℕ) → i < at → getD (putMark ms at p) i 0 ≡ getD ms i 0
+  unfolding putMark
+  mark-before i h = at0 i (omega arith) ∙ getD-set-other ms at i (p .value) 0 (λ q. omega arith)
+
+  mark-other : (i : ℕ) → i + 7 ≤ at → markAt (putMark ms at p) i ≡ markAt ms i
+  unfolding markAt
+  mark-other i h =
+      rw (
+        mark-before i (omega arith),
+        mark-before (i + 1) (omega arith),
+        mark-before (i + 2) (omega arith),
+        mark-before (i + 3) (omega arith),
+        mark-before (i + 4) (omega arith),
+        mark-before (i + 5) (omega arith),
+        mark-before (i + 6) (omega arith),
+      )
+
+  pub length-put-mark : length (putMark ms at p) ≡ length ms
+  unfolding putMark
+  length-put-mark = simp length-set refl
+
+  -- it is read
+  mark-same : at + 7 ≤ length ms → markAt (putMark ms at p) at ≡ p
+  unfolding markAt putMark
+  mark-same h =
+      let f0 = at0 at (omega arith) ∙ getD-set-same ms at (p .value) 0 (omega arith) in
+      let f1 = at1 (at + 1) (omega arith) ∙ getD-set-same l0 (at + 1) (p .names) 0 (simp length-set (omega arith)) in
+      let f2 = at2 (at + 2) (omega arith) ∙ getD-set-same l1 (at + 2) (p .text) 0 (simp length-set (omega arith)) in
+      let f3 = at3 (at + 3) (omega arith) ∙ getD-set-same l2 (at + 3) (p .entries) 0 (simp length-set (omega arith)) in
+      let f4 = at4 (at + 4) (omega arith) ∙ getD-set-same l3 (at + 4) (p .undo) 0 (simp length-set (omega arith)) in
+      let f5 = at5 (at + 5) (omega arith) ∙ getD-set-same l4 (at + 5) (p .count) 0 (simp length-set (omega arith)) in
+      let f6 = getD-set-same l5 (at + 6) u 0 (simp length-set (omega arith)) in
+      let e = ap (λ z. not (eqb z 0)) f6 ∙ bit (p .unique) in
+      λ z. record { value = f0 z; names = f1 z; text = f2 z; entries = f3 z; undo = f4 z; count = f5 z; unique = e z }
+    where
+      bit : (t : Bool) → not (eqb (cond t 1 0) 0) ≡ t
+      bit true = refl
+      bit false = refl
+
+  -- and others stay
+  marks-other : (d n : ℕ) → 7 * (16 * d + n) ≤ at → marksOf (putMark ms at p) d n ≡ marksOf ms d n
+  unfolding marksOf
+  marks-other d zero h = refl
+  marks-other d (suc n) h =
+      let a = mark-other (slotOf d (suc n)) (omega arith) in
+      let b = marks-other d n (omega arith) in
+      λ z. a z ∷ b z
+
+  chains-other : (ks : List Container) (pss : List (List Mark)) (ns : List ℕ) (now : Mark) → AllFalling ks pss ns now → 112 * length ks ≤ at
+      → chainsOf (putMark ms at p) ks ≡ chainsOf ms ks
+  unfolding chainsOf
+  chains-other [] pss ns now f h = refl
+  chains-other (k ∷ ks) [] ns now f h = absurd f
+  chains-other (k ∷ ks) (qs ∷ pss) ns now f h =
+      let m = f .0 in
+      let x = marks-other (length ks) (k .marks) (omega arith) in
+      let y = chains-other ks pss (restOf ns) now (f .3) (omega arith) in
+      λ z. x z ∷ y z
+
+-- A MARK SET in the innermost of at most 64
+pub chains-set : (ms : List ℕ) (p : Mark) (k : Container) (ks : List Container) (pss : List (List Mark)) (ns : List ℕ) (now : Mark)
+    → AllFalling ks pss ns now
+    → k .marks < 16 → length ks < 64 → length ms ≡ tableSize
+    → chainsOf (putMark ms (slotOf (length ks) (k .marks + 1)) p) (withMarks k (k .marks + 1) ∷ ks)
+    ≡ (p ∷ marksOf ms (length ks) (k .marks)) ∷ chainsOf ms ks
+unfolding chainsOf withMarks marksOf
+chains-set ms p k ks pss ns now f m d n =
+    let at = slotOf (length ks) (k .marks + 1) in
+    let s : k .marks + 1 ≡ suc (k .marks) = omega arith in
+    let x : markAt (putMark ms at p) at ≡ p = mark-same ms at p (omega arith) in
+    let y = marks-other ms at p (length ks) (k .marks) (omega arith) in
+    let z = chains-other ms at p ks pss ns now f (omega arith) in
+    let all : marksOf (putMark ms at p) (length ks) (suc (k .marks)) ≡ p ∷ marksOf ms (length ks) (k .marks) =
+    ap (λ j. markAt (putMark ms at p) (slotOf (length ks) j) ∷ marksOf (putMark ms at p) (length ks) (k .marks)) (sym s) ∙ (λ i. x i ∷ y i) in
+    (ap (λ j. marksOf (putMark ms at p) (length ks) j ∷ chainsOf (putMark ms at p) ks) s) ∙ (λ i. all i ∷ z i)
+
+-- ---- a mark returned to
+
+pub length-marks : (ms : List ℕ) (d n : ℕ) → length (marksOf ms d n) ≡ n
+unfolding marksOf
+length-marks ms d zero = refl
+length-marks ms d (suc n) = ap suc (length-marks ms d n)
+
+marks-from : (ms : List ℕ) (d i j : ℕ) → drop i (marksOf ms d (i + j)) ≡ marksOf ms d j
+unfolding marksOf
+marks-from ms d zero j = rw zero-add
+marks-from ms d (suc i) j = let e : suc i + j ≡ suc (i + j) = omega arith in rw e (marks-from ms d i j)
+
+-- the marks up to mark j
+pub marks-to : (ms : List ℕ) (d n j : ℕ) → j ≤ n → drop (n - j) (marksOf ms d n) ≡ marksOf ms d j
+marks-to ms d n j h = let e : n - j + j ≡ n = omega arith in ap (λ z. drop (n - j) (marksOf ms d z)) (sym e) ∙ marks-from ms d (n - j) j
+
+not-above-trans : (object : Bool) (p q r : Mark) → NotAbove object p q → NotAbove object q r → NotAbove object p r
+not-above-trans object p q r f g = (
+  omega (arith, f .0, g .0),
+  omega (arith, f .1, g .1),
+  omega (arith, f .2, g .2),
+  omega (arith, f .3, g .3),
+  omega (arith, f .4, g .4),
+  counts object (f .5) (g .5),
+)
+  where
+    counts : (t : Bool) → (t || leb (p .count) (q .count)) ≡ true → (t || leb (q .count) (r .count)) ≡ true → (t || leb (p .count) (r .count)) ≡ true
+    counts true a b = refl
+    counts false a b = le-leb (p .count) (r .count) (omega (arith, leb-true (p .count) (q .count) a, leb-true (q .count) (r .count) b))
+
+falling-more : (object : Bool) (start : Mark) (ps : List Mark) (now later : Mark) → NotAbove object now later → Falling object start ps now
+    → Falling object start ps later
+falling-more object start [] now later h f = not-above-trans object start now later f h
+falling-more object start (p ∷ ps) now later h f = (not-above-trans object p now later (f .0) h, f .1)
+
+pub falling-drop : (i : ℕ) (object : Bool) (start : Mark) (ps : List Mark) (now : Mark) → Falling object start ps now
+    → Falling object start (drop i ps) now
+falling-drop zero object start ps now f = f
+falling-drop (suc i) object start [] now f = f
+falling-drop (suc i) object start (p ∷ ps) now f = falling-more object start (drop i ps) p now (f .0) (falling-drop i object start ps p (f .1))
+
+-- the marks start at or above the container's own
+pub falling-start : (object : Bool) (start : Mark) (ps : List Mark) (now : Mark) → Falling object start ps now → NotAbove object start now
+falling-start object start [] now f = f
+falling-start object start (p ∷ ps) now f = not-above-trans object start p now (falling-start object start ps p (f .1)) (f .0)

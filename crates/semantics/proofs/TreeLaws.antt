@@ -21,12 +21,12 @@ use Rattle.container.proofs.EntryLaws.{ids-bounded, entries-equal}
 use Rattle.container.proofs.LayoutLaws.{BoundsList, BoundsObject, list-count, object-count, list-not-object, list-not-scalar, object-not-scalar, written-list-split, written-object-split}
 use Rattle.container.proofs.SortLaws.{Mem, Incl, Distinct, length-sort, sort-incl, sort-grows, object-bounds}
 use Rattle.measure.proofs.ValueLaws.{Plain}
-use Rattle.semantics.specs.Tree.{Mark, element, live, replaced, Tree, scalar, nest, Items, empty, item, Part, dataOf, startsFrom, withField, fieldsFrom, listBytes, objectBytes, encode, partsOf}
+use Rattle.semantics.specs.Tree.{Label, element, live, replaced, Tree, scalar, nest, Items, empty, item, Part, dataOf, startsFrom, withField, fieldsFrom, listBytes, objectBytes, encode, partsOf}
 
 -- ---- what is well formed
 
 -- an object's item is live or replaced, a list's an element
-abbrev pub Fits : Bool → Mark → Type 0
+abbrev pub Fits : Bool → Label → Type 0
 Fits true element = ⊥
 Fits true (live n) = Unit {0}
 Fits true replaced = Unit {0}
@@ -43,10 +43,10 @@ abbrev mutual
   FormedItems object (item m t is) = Fits object m × Formed t × FormedItems object is
 
 -- the live names are held
-abbrev pub HeldMark : List Name → Mark → Type 0
-HeldMark names element = Unit {0}
-HeldMark names (live n) = place n names < length names
-HeldMark names replaced = Unit {0}
+abbrev pub HeldLabel : List Name → Label → Type 0
+HeldLabel names element = Unit {0}
+HeldLabel names (live n) = place n names < length names
+HeldLabel names replaced = Unit {0}
 
 abbrev mutual
   pub Held : List Name → Tree → Type 0
@@ -55,7 +55,7 @@ abbrev mutual
 
   pub HeldItems : List Name → Items → Type 0
   HeldItems names empty = Unit {0}
-  HeldItems names (item m t is) = HeldMark names m × Held names t × HeldItems names is
+  HeldItems names (item m t is) = HeldLabel names m × Held names t × HeldItems names is
 
 -- both, of a tree whose bytes four bytes count
 pub record Sound (floor : ℕ) (names : List Name) (t : Tree) : Type 0 where
@@ -97,7 +97,8 @@ module _ (floor : ℕ) (names : List Name) where
       rest : List Entry
       rest = fieldsFrom names (at + length (encode floor names t)) (partsOf floor names is)
 
-      go : (m : Mark) → HeldMark names m → misplaced true (length names) size rest ≡ false → misplaced true (length names) size (withField names at m rest) ≡ false
+      go : (m : Label) → HeldLabel names m → misplaced true (length names) size rest ≡ false
+          → misplaced true (length names) size (withField names at m rest) ≡ false
       go element k e = e
       go (live n) k e = rw (le-ltb size at (omega arith), lt-leb (length names) (place n names) k) e
       go replaced k e = e
@@ -122,12 +123,12 @@ module _ (floor : ℕ) (names : List Name) where
 pub fields-after : (names : List Name) (at : ℕ) (ps : List Part) (e : Entry) → Mem e (fieldsFrom names at ps) → at ≤ e .offset
 unfolding fieldsFrom withField
 fields-after names at [] e m = absurd m
-fields-after names at (p ∷ ps) e m = go (p .mark) (fields-after names (at + length (p .bytes)) ps e) m
+fields-after names at (p ∷ ps) e m = go (p .label) (fields-after names (at + length (p .bytes)) ps e) m
   where
     rest : List Entry
     rest = fieldsFrom names (at + length (p .bytes)) ps
 
-    go : (k : Mark) → (Mem e rest → at + length (p .bytes) ≤ e .offset) → Mem e (withField names at k rest) → at ≤ e .offset
+    go : (k : Label) → (Mem e rest → at + length (p .bytes) ≤ e .offset) → Mem e (withField names at k rest) → at ≤ e .offset
     go element f m = omega (arith, f m)
     go (live n) f (inl q) = omega (arith, ap (λ (x : Entry). x .offset) q)
     go (live n) f (inr m) = omega (arith, f m)
@@ -138,34 +139,35 @@ place-inj m n names h k e = sym (place-here m names h) ∙ (ap (λ i. getD names
 
 -- the first item's, where all other entries come later
 module _ (names : List Name) (at : ℕ) (es fs : List Entry) (les : (e : Entry) → Mem e es → at < e .offset) (lfs : (e : Entry) → Mem e fs → at < e .offset) where
-  first-mark : (j k : Mark) → Fits true j → Fits true k → HeldMark names j → HeldMark names k → Incl (withField names at j es) (withField names at k fs)
+  first-label : (j k : Label) → Fits true j → Fits true k → HeldLabel names j → HeldLabel names k
+      → Incl (withField names at j es) (withField names at k fs)
       → Incl (withField names at k fs) (withField names at j es) → j ≡ k
   unfolding withField
-  first-mark element k f g h l i o = absurd f
-  first-mark (live m) element f g h l i o = absurd g
-  first-mark (live m) (live n) f g h l i o = go (i (record { id = place m names; offset = at }) (inl refl))
+  first-label element k f g h l i o = absurd f
+  first-label (live m) element f g h l i o = absurd g
+  first-label (live m) (live n) f g h l i o = go (i (record { id = place m names; offset = at }) (inl refl))
     where
       go : Mem (record { id = place m names; offset = at }) (withField names at (live n) fs) → live m ≡ live n
       go (inl e) = ap live (place-inj m n names h l (ap (λ (x : Entry). x .id) e))
       go (inr b) = absurd (omega (arith, lfs (record { id = place m names; offset = at }) b))
-  first-mark (live m) replaced f g h l i o =
+  first-label (live m) replaced f g h l i o =
       let x : Entry = record { id = place m names; offset = at } in
       absurd (omega (arith, lfs x (i x (inl refl))))
-  first-mark replaced element f g h l i o = absurd g
-  first-mark replaced (live n) f g h l i o =
+  first-label replaced element f g h l i o = absurd g
+  first-label replaced (live n) f g h l i o =
       let x : Entry = record { id = place n names; offset = at } in
       absurd (omega (arith, les x (o x (inl refl))))
-  first-mark replaced replaced f g h l i o = refl
+  first-label replaced replaced f g h l i o = refl
 
 -- an entry that starts later is behind the first item's
-behind : (names : List Name) (at : ℕ) (k : Mark) (es : List Entry) (e : Entry) → at < e .offset → Mem e (withField names at k es) → Mem e es
+behind : (names : List Name) (at : ℕ) (k : Label) (es : List Entry) (e : Entry) → at < e .offset → Mem e (withField names at k es) → Mem e es
 unfolding withField
 behind names at element es e l m = m
 behind names at (live n) es e l (inl q) = absurd (omega (arith, ap (λ (x : Entry). x .offset) q))
 behind names at (live n) es e l (inr m) = m
 behind names at replaced es e l m = m
 
-before : (names : List Name) (at : ℕ) (k : Mark) (es : List Entry) (e : Entry) → Mem e es → Mem e (withField names at k es)
+before : (names : List Name) (at : ℕ) (k : Label) (es : List Entry) (e : Entry) → Mem e es → Mem e (withField names at k es)
 unfolding withField
 before names at element es e m = m
 before names at (live n) es e m = inr m
@@ -182,13 +184,14 @@ module _ (floor : ℕ) (names : List Name) where
   encode-some (nest true is) = omega arith
   encode-some (nest false is) = omega arith
 
-  pub marks-read : (at : ℕ) (is js : Items) → FormedItems true is → FormedItems true js → HeldItems names is → HeldItems names js → treesOf is ≡ treesOf js
+  pub labels-read : (at : ℕ) (is js : Items) → FormedItems true is → FormedItems true js → HeldItems names is → HeldItems names js
+      → treesOf is ≡ treesOf js
       → Incl (fieldsFrom names at (partsOf floor names is)) (fieldsFrom names at (partsOf floor names js)) → Incl (fieldsFrom names at (partsOf floor names js)) (fieldsFrom names at (partsOf floor names is)) → is ≡ js
   unfolding partsOf fieldsFrom
-  marks-read at empty empty f g h k e i o = refl
-  marks-read at empty (item n u js) f g h k e i o = absurd (let z : _≡_ {A = ℕ} 0 1 = cc in omega arith)
-  marks-read at (item m t is) empty f g h k e i o = absurd (let z : _≡_ {A = ℕ} 0 1 = cc in omega arith)
-  marks-read at (item m t is) (item n u js) f g h k e i o =
+  labels-read at empty empty f g h k e i o = refl
+  labels-read at empty (item n u js) f g h k e i o = absurd (let z : _≡_ {A = ℕ} 0 1 = cc in omega arith)
+  labels-read at (item m t is) empty f g h k e i o = absurd (let z : _≡_ {A = ℕ} 0 1 = cc in omega arith)
+  labels-read at (item m t is) (item n u js) f g h k e i o =
       let p : t ≡ u = head-eq-of-cons-eq e in
       let next = at + length (encode floor names t) in
       let es = fieldsFrom names next (partsOf floor names is) in
@@ -198,8 +201,8 @@ module _ (floor : ℕ) (names : List Name) where
       let full = encode-some t in
       let les : (x : Entry) → Mem x es → at < x .offset = λ x b. omega (arith, fields-after names next (partsOf floor names is) x b) in
       let lfs : (x : Entry) → Mem x fs → at < x .offset = λ x b. omega (arith, fields-after names next (partsOf floor names js) x b) in
-      let q : m ≡ n = first-mark names at es fs les lfs m n (f .0) (g .0) (h .0) (k .0) i1 o1 in
-      let w : is ≡ js = marks-read next is js (f .2) (g .2) (h .2) (k .2) (tail-eq-of-cons-eq e)
+      let q : m ≡ n = first-label names at es fs les lfs m n (f .0) (g .0) (h .0) (k .0) i1 o1 in
+      let w : is ≡ js = labels-read next is js (f .2) (g .2) (h .2) (k .2) (tail-eq-of-cons-eq e)
       (λ x b. behind names at n fs x (les x b) (i1 x (before names at m es x b)))
       (λ x b. behind names at m es x (lfs x b) (o1 x (before names at n fs x b))) in
       cc
@@ -222,7 +225,7 @@ NotLive n empty = Unit {0}
 NotLive n (item m t is) = (m ≢ live n) × NotLive n is
 
 -- of these items none is live under the mark's name
-abbrev pub ApartFrom : Mark → Items → Type 0
+abbrev pub ApartFrom : Label → Items → Type 0
 ApartFrom element is = Unit {0}
 ApartFrom (live n) is = NotLive n is
 ApartFrom replaced is = Unit {0}
@@ -247,7 +250,8 @@ module _ (floor : ℕ) (names : List Name) where
       rest : List Entry
       rest = fieldsFrom names (at + length (encode floor names t)) (partsOf floor names is)
 
-      go : (k : Mark) → HeldMark names k → k ≢ live n → (Mem e rest → getD names (e .id) [] ≢ n) → Mem e (withField names at k rest) → getD names (e .id) [] ≢ n
+      go : (k : Label) → HeldLabel names k → k ≢ live n → (Mem e rest → getD names (e .id) [] ≢ n) → Mem e (withField names at k rest)
+          → getD names (e .id) [] ≢ n
       go element l q f m = f m
       go (live j) l q f (inl p) = λ r. q (ap live (sym (place-here j names l) ∙ (ap (λ (x : Entry). getD names (x .id) []) (sym p) ∙ r)))
       go (live j) l q f (inr m) = f m
@@ -261,7 +265,8 @@ module _ (floor : ℕ) (names : List Name) where
       next : ℕ
       next = at + length (encode floor names t)
 
-      go : (k : Mark) → HeldMark names k → ApartFrom k is → Distinct names (fieldsFrom names next (partsOf floor names is)) → Distinct names (withField names at k (fieldsFrom names next (partsOf floor names is)))
+      go : (k : Label) → HeldLabel names k → ApartFrom k is → Distinct names (fieldsFrom names next (partsOf floor names is))
+          → Distinct names (withField names at k (fieldsFrom names next (partsOf floor names is)))
       go element l q f = f
       go (live j) l q f = ((λ e m. rw (place-here j names l) (not-among j next is (h .2) q e m)), f)
       go replaced l q f = f
@@ -289,11 +294,11 @@ module _ (floor : ℕ) (names : List Name) where
   inside {object = true} h = record { formed = h .formed; held = h .held; small = omega (arith, simp length-append at (h .small)) }
   inside {object = false} h = record { formed = h .formed; held = h .held; small = omega (arith, simp length-append at (h .small)) }
 
-  pub first-item : {object : Bool} {m : Mark} {t : Tree} {is : Items} → SoundItems floor names object (item m t is) → Sound floor names t
+  pub first-item : {object : Bool} {m : Label} {t : Tree} {is : Items} → SoundItems floor names object (item m t is) → Sound floor names t
   unfolding partsOf dataOf
   first-item h = record { formed = h .formed .1; held = h .held .1; small = omega (arith, simp length-append at (h .small)) }
 
-  pub other-items : {object : Bool} {m : Mark} {t : Tree} {is : Items} → SoundItems floor names object (item m t is) → SoundItems floor names object is
+  pub other-items : {object : Bool} {m : Label} {t : Tree} {is : Items} → SoundItems floor names object (item m t is) → SoundItems floor names object is
   unfolding partsOf dataOf
   other-items h = record { formed = h .formed .2; held = h .held .2; small = omega (arith, simp length-append at (h .small)) }
 
@@ -321,7 +326,8 @@ module _ (floor : ℕ) (names : List Name) (few : length names ≤ 256 ^ 4) wher
       let t = written-object-split floor floor (dataOf ps ++ r) (dataOf qs ++ s) (object-bounded floor names is (h .held) few (h .small)) (object-bounded floor names js (k .held) few (k .small)) (simp append-assoc at e) in
       let d = append-split (dataOf ps) (dataOf qs) r s (t .list .size) (t .list .rest) in
       let q = entries-equal (sort names es) (sort names fs) (t .ids) (t .list .offsets) in (
-        ap (nest true) (marks-read floor names 0 is js (h .formed) (k .formed) (h .held) (k .held) (g (d .0)) (sort-incl names es fs q) (sort-incl names fs es (sym q))),
+        ap (nest true)
+            (labels-read floor names 0 is js (h .formed) (k .formed) (h .held) (k .held) (g (d .0)) (sort-incl names es fs q) (sort-incl names fs es (sym q))),
         d .1,
       )
 
@@ -349,10 +355,10 @@ module _ (floor : ℕ) (names : List Name) (few : length names ≤ 256 ^ 4) wher
 
 -- ---- names that come later
 module _ (names more : List Name) where
-  pub mark-grows : (m : Mark) → HeldMark names m → HeldMark (names ++ more) m
-  mark-grows element h = h
-  mark-grows (live n) h = omega (arith, place-held n names more h, length-append names more)
-  mark-grows replaced h = h
+  pub label-grows : (m : Label) → HeldLabel names m → HeldLabel (names ++ more) m
+  label-grows element h = h
+  label-grows (live n) h = omega (arith, place-held n names more h, length-append names more)
+  label-grows replaced h = h
 
   mutual
     pub held-grows : (t : Tree) → Held names t → Held (names ++ more) t
@@ -361,9 +367,9 @@ module _ (names more : List Name) where
 
     pub items-grow : (is : Items) → HeldItems names is → HeldItems (names ++ more) is
     items-grow empty h = h
-    items-grow (item m t is) h = (mark-grows m (h .0), held-grows t (h .1), items-grow is (h .2))
+    items-grow (item m t is) h = (label-grows m (h .0), held-grows t (h .1), items-grow is (h .2))
 
-  field-grows : (at : ℕ) (m : Mark) (es : List Entry) → HeldMark names m → withField (names ++ more) at m es ≡ withField names at m es
+  field-grows : (at : ℕ) (m : Label) (es : List Entry) → HeldLabel names m → withField (names ++ more) at m es ≡ withField names at m es
   unfolding withField
   field-grows at element es h = refl
   field-grows at (live n) es h = rw (place-held n names more h)
@@ -400,7 +406,7 @@ module _ (floor : ℕ) (names more : List Name) where
     parts-grow (item m t is) h =
         let p = encode-grows t (h .1) in
         let q = parts-grow is (h .2) in
-        λ i. record { mark = m; bytes = p i } ∷ q i
+        λ i. record { label = m; bytes = p i } ∷ q i
 
   pub sound-grows : {t : Tree} → Sound floor names t → Sound floor (names ++ more) t
   sound-grows {t} h = record { formed = h .formed; held = held-grows names more t (h .held); small = rw (encode-grows t (h .held)) (h .small) }

@@ -10,17 +10,19 @@ use Rattle.metadata.specs.Names.{Name, exceeds, risen, fieldNames, textSize}
 use Rattle.container.specs.Entries.{misplaced, roomFor, seek}
 use Rattle.container.specs.declared.Entry.{Entry}
 use Rattle.measure.specs.Measure.{wholeValues}
+use Rattle.semantics.specs.declared.Container.{Container}
 use Rattle.semantics.specs.declared.ParentEntry.{ParentEntry}
 use Rattle.semantics.specs.declared.ParentEntry.the-variants.{New, Replaced}
 use Rattle.semantics.specs.declared.View.{View}
-use Rattle.semantics.specs.Record.{Storage, Call, register, append, openIn, close, rollBack, uniqueness, finish, goodFloor, countable, inObject, inList, innerSize, innerData, parentSize, innerEntries, parentEntries}
+use Rattle.semantics.specs.Record.{Storage, Call, register, append, openIn, close, rollBack, uniqueness, setMark, returnTo, finish, goodFloor, countable, inObject, inList, innerSize, innerData, parentSize, innerEntries, parentEntries}
 
--- "a used count exceeds its lent buffer"
+-- "a used count exceeds its lent buffer"; document 02, A9, of the undo records: "Number 1 covers the used count"
 unfoldable pub overUsed : View → Storage → Bool
 overUsed v l =
     let c = v .counts in
     ltb (counted (length (l .value))) (c .value)
-    || (exceeds (c .dictionary) (length (l .text)) (length (l .ends)) || ltb (roomFor (length (l .entries))) (c .entries))
+    || (exceeds (c .dictionary) (length (l .text)) (length (l .ends))
+    || (ltb (roomFor (length (l .entries))) (c .entries) || ltb (roomFor (length (l .undo))) (c .undo)))
 
 -- the innermost's starting marks lie within the used counts, and a list, with no child open in it, counts no more than its data bytes
 abbrev pub grown : View → Bool
@@ -29,10 +31,11 @@ grown v =
     let c = v .counts in
     leb (k .value) (c .value)
     && (leb (k .names) (fieldNames (c .dictionary))
-    && (leb (k .text) (textSize (c .dictionary)) && (leb (k .entries) (c .entries) && countable k (v .elements) (innerSize v))))
+    && (leb (k .text) (textSize (c .dictionary))
+    && (leb (k .entries) (c .entries) && (leb (k .undo) (c .undo) && countable k (v .elements) (innerSize v)))))
 
 -- "over 64 containers are open, or their starting marks fall or exceed the used counts"; document 02, A8, "a count above the list's data bytes, plus
--- one for a child open in it, is 1 at every call"
+-- one for a child open in it, is 1 at every call"; and the marks (`marksFit`)
 unfoldable pub unchained : View → Bool
 unchained v = not (v .chain && grown v)
 
@@ -62,15 +65,28 @@ abbrev pub orphaned : ParentEntry → Bool → ℕ → ℕ → List Entry → Bo
 orphaned New object n size es = eqb (cond object (length es) n) 0
 orphaned (Replaced id offset) object n size es = not object || (not (ltb (seek id es) (length es)) || ltb size offset)
 
+-- A9, "a replacing child under a mark": it took an undo record
+abbrev pub replacing : ParentEntry → Bool
+replacing New = false
+replacing (Replaced id offset) = true
+
+abbrev pub recordedChild : Container → Container → Bool
+recordedChild k parent = replacing (k .parent) && ltb 0 (parent .marks)
+
+-- A9, "at roll back, a replacing child under a mark whose starting undo count is its parent's"
+abbrev pub unrecorded : Container → Container → Bool
+unrecorded k parent = recordedChild k parent && eqb (k .undo) (parent .undo)
+
 -- "at roll back below the top level": two or more are open
 unfoldable pub damagedParent : View → Storage → Bool
 damagedParent v l =
     ltb 1 (v .counts .depth)
-    && (misplacedParent v l || orphaned (v .inner .parent) (v .parent .object) (v .siblings) (parentSize v) (parentEntries v l))
+    && (misplacedParent v l
+    || (orphaned (v .inner .parent) (v .parent .object) (v .siblings) (parentSize v) (parentEntries v l) || unrecorded (v .inner) (v .parent)))
 
 -- "Named calls, register and finish read all name ends; named calls also the innermost entries; close reads the innermost
 -- entries and all name ends; roll back reads the parent's entries"; A8, "Where storage was altered and the data is not as many whole values as the
--- list counts, close refuses with 1"
+-- list counts, close refuses with 1"; A9, "For number 1 a return reads the innermost entries"
 abbrev pub misreadBy : View → Storage → Option Name → Bool
 misreadBy v l none = false
 misreadBy v l (some n) = fallenEnds v l || misplacedInner v l
@@ -82,6 +98,8 @@ misread v l (openIn nm k) = misreadBy v l nm
 misread v l close = fallenEnds v l || (misplacedInner v l || uncounted v l)
 misread v l rollBack = damagedParent v l
 misread v l (uniqueness u) = false
+misread v l setMark = false
+misread v l (returnTo j) = misplacedInner v l
 misread v l (finish out) = fallenEnds v l
 
 -- number 1

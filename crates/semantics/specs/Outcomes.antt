@@ -9,15 +9,14 @@ use lib.ListN.{replicate}
 use Rattle.value.specs.declared.variant.Variant.the-variants as variant
 use Rattle.value.specs.declared.variant.VariantBytes.the-variants as kind
 use Rattle.metadata.specs.Names.{Name, same}
-use Rattle.metadata.specs.Calls as dictionary
 use Rattle.semantics.specs.declared.Container.{Container}
 use Rattle.semantics.specs.declared.ParentEntry.the-variants.{Replaced}
-use Rattle.semantics.specs.Record.{storageOf, State, Scalars, fixed, bytes, Call, append, openIn, close, rollBack, finish}
+use Rattle.semantics.specs.Record.{storageOf, State, tableSize, Scalars, fixed, bytes, Call, append, openIn, close, rollBack, finish}
 use Rattle.semantics.specs.Tree.{encode}
 use Rattle.semantics.specs.History.{Kept}
 use Rattle.semantics.specs.Step.{step}
 use Rattle.semantics.specs.Ledger.{Account, total, refusalOf}
-use Rattle.semantics.specs.Run.{run, refused, valueBytes, dictionaryBytes, runNames, kept, noAccount, accountAfter, lentBy}
+use Rattle.semantics.specs.Run.{freshCounts, run, refused, valueBytes, dictionaryBytes, runNames, kept, noAccount, accountAfter, lentBy}
 
 -- the calls without the finish, the value and the dictionary, and whether it is said with "uniqueness off"
 pub record Case : Type 0 where
@@ -91,7 +90,7 @@ outcomes =
 -- a fresh builder of a uniqueness mark, at floor 1 (document 02, A10: "The outcomes .. stand at floor 1"), and storage that are not blank, and
 -- have room for the largest outcome and no more
 abbrev pub junkContainer : Container
-junkContainer = record { value = 9; names = 8; text = 7; entries = 6; parent = Replaced 5 4; object = true; unique = true }
+junkContainer = record { value = 9; names = 8; text = 7; entries = 6; undo = 3; parent = Replaced 5 4; object = true; unique = true; marks = 2 }
 
 abbrev pub start : Bool → State
 start u =
@@ -100,9 +99,10 @@ start u =
           record {
             containers = replicate 64 junkContainer;
             elements = replicate 64 99;
-            counts = record { value = 0; entries = 0; depth = 0; dictionary = dictionary.fresh; unique = u; finished = false; floor = 1 };
+            counts = freshCounts u 1;
           };
-      storage = storageOf (replicate 11 0xee) (replicate 2 0xee) (replicate 2 99) (replicate 5 99);
+      marks = replicate tableSize 99;
+      storage = storageOf (replicate 11 0xee) (replicate 2 0xee) (replicate 2 99) (replicate 5 99) (replicate 1 99);
     }
 
 -- the bytes of a kept record's top value
@@ -117,10 +117,10 @@ sameNames (m ∷ ms) (n ∷ ns) = same m n && sameNames ms ns
 
 -- each call's number is that which follows from the accepted calls alone, and the used value bytes are the ledger's
 unfoldable pub accounted : Account → State → List Call → Bool
-accounted a s [] = eqb (s .builder .counts .value) (total (a .sums))
+accounted a s [] = eqb (s .builder .counts .value) (total (a .tallies))
 accounted a s (c ∷ cs) =
     let later = accounted (accountAfter a c (refused s c)) (step s c .state) cs in
-    (eqb (step s c .number) (refusalOf a (lentBy (s .storage)) c) && eqb (s .builder .counts .value) (total (a .sums))) && later
+    (eqb (step s c .number) (refusalOf a (lentBy (s .storage)) c) && eqb (s .builder .counts .value) (total (a .tallies))) && later
 
 -- from a builder of that uniqueness mark, the calls and a finish give the value and the dictionary, and the kept record is that value's and holds that dictionary's
 -- names; and the numbers and the used bytes are accounted for

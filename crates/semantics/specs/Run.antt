@@ -9,28 +9,30 @@ use Rattle.metadata.specs.Names.{Name}
 use Rattle.metadata.specs.Bytes.{dictionaryNames}
 use Rattle.metadata.specs.Bytes as bytes
 use Rattle.metadata.specs.Calls as dictionary
-use Rattle.semantics.specs.declared.Builder.{Builder}
 use Rattle.semantics.specs.declared.Counts.{Counts}
-use Rattle.semantics.specs.Record.{Storage, State, goodFloor, Call, register, append, openIn, close, rollBack, uniqueness, finish}
+use Rattle.semantics.specs.Record.{Storage, State, tableSize, goodFloor, Call, register, append, openIn, close, rollBack, uniqueness, setMark, returnTo, finish}
 use Rattle.semantics.specs.Step.{step}
-use Rattle.semantics.specs.Ledger.{Account, Lent, noLedger, ledgerAfter, marksAfter}
+use Rattle.semantics.specs.Ledger.{Account, Lent, noLedger, ledgerAfter}
 use Rattle.semantics.specs.History.{History, noHistory, fed, Kept, keptOf}
 
 -- document 01, "A fresh builder: nothing used or open, .. no finish accepted, either uniqueness mark"; since document 02's A3 it has no
--- sorted mark, and by A10 "A fresh builder takes a floor of 1 to 4 bytes"
-pub record Fresh (b : Builder) : Type 0 where
-  pub value : b .counts .value ≡ 0
-  pub entries : b .counts .entries ≡ 0
-  pub depth : b .counts .depth ≡ 0
-  pub dictionary : b .counts .dictionary ≡ dictionary.fresh
-  pub finished : b .counts .finished ≡ false
-  pub containers : length (b .containers) ≡ 64
-  pub elements : length (b .elements) ≡ 64
-  pub floor : goodFloor (b .counts .floor) ≡ true
+-- sorted mark, and by A10 "A fresh builder takes a floor of 1 to 4 bytes"; its table of marks is of its size, with any content
+pub record Fresh (s : State) : Type 0 where
+  pub value : s .builder .counts .value ≡ 0
+  pub entries : s .builder .counts .entries ≡ 0
+  pub undo : s .builder .counts .undo ≡ 0
+  pub depth : s .builder .counts .depth ≡ 0
+  pub dictionary : s .builder .counts .dictionary ≡ dictionary.fresh
+  pub finished : s .builder .counts .finished ≡ false
+  pub containers : length (s .builder .containers) ≡ 64
+  pub elements : length (s .builder .elements) ≡ 64
+  pub marks : length (s .marks) ≡ tableSize
+  pub floor : goodFloor (s .builder .counts .floor) ≡ true
 
 -- the counts that a maker gives
 abbrev pub freshCounts : Bool → ℕ → Counts
-freshCounts u floor = record { value = 0; entries = 0; depth = 0; dictionary = dictionary.fresh; unique = u; finished = false; floor = floor }
+freshCounts u floor =
+    record { value = 0; entries = 0; undo = 0; depth = 0; dictionary = dictionary.fresh; unique = u; finished = false; floor = floor }
 
 -- the floor of a builder
 abbrev pub floorOf : State → ℕ
@@ -46,7 +48,7 @@ refused s c = not (eqb (step s c .number) 0)
 
 -- "A finished run .. is a list of calls so run from a fresh builder, with an accepted finish"
 pub record FinishedRun (s : State) (cs : List Call) : Type 0 where
-  pub fresh : Fresh (s .builder)
+  pub fresh : Fresh s
   pub finished : run s cs .builder .counts .finished ≡ true
 
 -- "Its value bytes are the used ones"
@@ -60,6 +62,8 @@ isFinish (openIn nm k) = false
 isFinish close = false
 isFinish rollBack = false
 isFinish (uniqueness u) = false
+isFinish setMark = false
+isFinish (returnTo j) = false
 isFinish (finish out) = true
 
 -- the dictionary that the accepted finish wrote
@@ -87,7 +91,7 @@ pub data Made : State → List Call → State → List ℕ → Type 0 where
 
 -- a finished run, of calls made
 pub record FinishedCalls (s : State) (cs : List Call) (u : State) (d : List ℕ) : Type 0 where
-  pub fresh : Fresh (s .builder)
+  pub fresh : Fresh s
   pub made : Made s cs u d
   pub finished : u .builder .counts .finished ≡ true
 
@@ -123,14 +127,13 @@ pub record AcceptedFinish (s : State) (cs : List Call) : Type 0 where
 -- ---- the account of the calls so far, fed whether each was refused
 
 abbrev pub noAccount : Bool → ℕ → Account
-noAccount unique floor = record { history = noHistory; sums = noLedger; marks = unique ∷ []; finished = false; floor = floor }
+noAccount unique floor = record { history = noHistory; tallies = noLedger unique; finished = false; floor = floor }
 
 unfoldable pub accountAfter : Account → Call → Bool → Account
 accountAfter a c refused =
     record {
       history = fed (a .history) c refused;
-      sums = ledgerAfter (a .floor) (a .history) (a .sums) c refused;
-      marks = marksAfter (a .marks) c refused;
+      tallies = ledgerAfter (a .floor) (a .history) (a .tallies) c refused;
       finished = a .finished || (isFinish c && not refused);
       floor = a .floor;
     }
@@ -144,4 +147,5 @@ unfoldable pub accountOf : State → List Call → Account
 accountOf s cs = accountFrom (noAccount (s .builder .counts .unique) (floorOf s)) s cs
 
 abbrev pub lentBy : Storage → Lent
-lentBy l = record { value = length (l .value); text = length (l .text); ends = length (l .ends); entries = length (l .entries) }
+lentBy l =
+    record { value = length (l .value); text = length (l .text); ends = length (l .ends); entries = length (l .entries); undo = length (l .undo) }

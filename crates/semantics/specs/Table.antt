@@ -1,5 +1,5 @@
 -- Document 01's table of refused calls: for each call its rows, in the table's order, which is the order of checking.
-use mathlib.Core.Bool.{Bool, false, cond, not, _&&_}
+use mathlib.Core.Bool.{Bool, false, cond, not, _&&_, _||_}
 use mathlib.Core.List.{List, [], _∷_, _++_}
 use mathlib.Core.Option.{Option, none, some}
 use Prim.Native.Nat.{ℕ, _+_}
@@ -20,7 +20,7 @@ use Rattle.container.specs.Layout.{listHeader, objectHeader}
 use Rattle.container.specs.Sort.{sort}
 use Rattle.measure.specs.Measure.{startsIn}
 use Rattle.semantics.specs.declared.View.{View}
-use Rattle.semantics.specs.Record.{Storage, Scalars, fixed, civil, packed, bytes, uuid, Call, register, append, openIn, close, rollBack, uniqueness, finish, scalarOf, goodFloor, isOpen, inObject, innerSize, innerData, innerEntries, namesHeld, uniqueNow}
+use Rattle.semantics.specs.Record.{Storage, Scalars, fixed, civil, packed, bytes, uuid, Call, register, append, openIn, close, rollBack, uniqueness, setMark, returnTo, finish, scalarOf, goodFloor, isOpen, inObject, innerSize, innerData, innerEntries, namesHeld, uniqueNow}
 use Rattle.semantics.specs.Damage.{misreadBy, misread, damaged}
 
 -- ---- the rows' tests
@@ -79,6 +79,21 @@ newEntry v l nm = inObject v && not (liveUnder v l nm)
 abbrev pub entriesFull : View → Storage → Option Name → Bool
 entriesFull v l nm = newEntry v l nm && leb (roomFor (length (l .entries))) (v .counts .entries)
 
+-- 23, document 02, A9, "a replacement under a mark that finds the undo storage full": "Each replacement in an object with a mark takes one undo
+-- record"
+abbrev pub recorded : View → Storage → Option Name → Bool
+recorded v l nm = liveUnder v l nm && ltb 0 (v .inner .marks)
+
+abbrev pub undoFull : View → Storage → Option Name → Bool
+undoFull v l nm = recorded v l nm && leb (roomFor (length (l .undo))) (v .counts .undo)
+
+-- 22, A9, "a seventeenth mark, a mark outside any container or a return to one that isn't set"
+abbrev pub noMarkFree : View → Bool
+noMarkFree v = not (isOpen v) || leb 16 (v .inner .marks)
+
+abbrev pub notSet : View → ℕ → Bool
+notSet v j = not (isOpen v) || (eqb j 0 || ltb (v .inner .marks) j)
+
 -- 14, "the scalar or header doesn't fit after the used bytes"
 abbrev pub tooLong : View → Storage → ℕ → Bool
 tooLong v l size = not (fits (v .counts .value) size (length (l .value)))
@@ -102,7 +117,8 @@ frontRows v l nm =
 abbrev pub backRows : View → Storage → Option Name → ℕ → List Row
 backRows v l nm size =
     row 9 (badName nm)
-    ∷ (row 10 (taken v l nm) ∷ (row 12 (namesFull v l nm) ∷ (row 13 (entriesFull v l nm) ∷ (row 14 (tooLong v l size) ∷ []))))
+    ∷ (row 10 (taken v l nm)
+    ∷ (row 12 (namesFull v l nm) ∷ (row 13 (entriesFull v l nm) ∷ (row 23 (undoFull v l nm) ∷ (row 14 (tooLong v l size) ∷ [])))))
 
 abbrev pub appendRows : View → Storage → Option Name → List Row → ℕ → List Row
 appendRows v l nm own size = frontRows v l nm ++ (own ++ backRows v l nm size)
@@ -120,7 +136,8 @@ rows v l (openIn nm k) =
     ∷ (row 6 (secondTop v)
     ∷ (row 9 (badName nm)
     ∷ (row 10 (taken v l nm)
-    ∷ (row 11 (leb 64 (v .counts .depth)) ∷ (row 12 (namesFull v l nm) ∷ (row 13 (entriesFull v l nm) ∷ []))))))))
+    ∷ (row 11 (leb 64 (v .counts .depth))
+    ∷ (row 12 (namesFull v l nm) ∷ (row 13 (entriesFull v l nm) ∷ (row 23 (undoFull v l nm) ∷ [])))))))))
 rows v l close =
     row 1 (damaged v l (misread v l close))
     ∷ (row 2 (v .counts .finished) ∷ (row 3 (not (isOpen v)) ∷ (row 14 (tooLong v l (length (header v l))) ∷ [])))
@@ -128,6 +145,9 @@ rows v l rollBack =
     row 1 (damaged v l (misread v l rollBack)) ∷ (row 2 (v .counts .finished) ∷ (row 3 (not (isOpen v)) ∷ []))
 rows v l (uniqueness u) =
     row 1 (damaged v l (misread v l (uniqueness u))) ∷ (row 2 (v .counts .finished) ∷ (row 3 (not (inObject v)) ∷ []))
+rows v l setMark = row 1 (damaged v l (misread v l setMark)) ∷ (row 2 (v .counts .finished) ∷ (row 22 (noMarkFree v) ∷ []))
+rows v l (returnTo j) =
+    row 1 (damaged v l (misread v l (returnTo j))) ∷ (row 2 (v .counts .finished) ∷ (row 22 (notSet v j) ∷ []))
 rows v l (finish out) =
     row 1 (damaged v l (misread v l (finish out)))
     ∷ (row 2 (v .counts .finished)

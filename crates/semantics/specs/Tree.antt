@@ -11,10 +11,10 @@ use Rattle.container.specs.Sort.{sort}
 use Rattle.container.specs.declared.Entry.{Entry}
 
 -- document 01, an item "is live" under its name, or "becomes replaced and loses that name"; a list's is an element
-pub data Mark : Type 0 where
-  element : Mark
-  live : Name → Mark
-  replaced : Mark
+pub data Label : Type 0 where
+  element : Label
+  live : Name → Label
+  replaced : Label
 
 -- a scalar, or a closed container: "its kind and items"
 mutual
@@ -24,11 +24,11 @@ mutual
 
   pub data Items : Type 0 where
     empty : Items
-    item : Mark → Tree → Items → Items
+    item : Label → Tree → Items → Items
 
 -- an item as its container sees it
 pub record Part : Type 0 where
-  pub mark : Mark
+  pub label : Label
   pub bytes : List ℕ
 
 -- document 01, "An offset counts from the container's first data byte": the items' bytes one behind the other, where each
@@ -41,14 +41,14 @@ unfoldable pub startsFrom : ℕ → List Part → List ℕ
 startsFrom at [] = []
 startsFrom at (p ∷ ps) = at ∷ startsFrom (at + length (p .bytes)) ps
 
-unfoldable pub withField : List Name → ℕ → Mark → List Entry → List Entry
+unfoldable pub withField : List Name → ℕ → Label → List Entry → List Entry
 withField names at element es = es
 withField names at (live n) es = record { id = place n names; offset = at } ∷ es
 withField names at replaced es = es
 
 unfoldable pub fieldsFrom : List Name → ℕ → List Part → List Entry
 fieldsFrom names at [] = []
-fieldsFrom names at (p ∷ ps) = withField names at (p .mark) (fieldsFrom names (at + length (p .bytes)) ps)
+fieldsFrom names at (p ∷ ps) = withField names at (p .label) (fieldsFrom names (at + length (p .bytes)) ps)
 
 -- a list's and an object's bytes, by the floor under their widths
 unfoldable pub listBytes : ℕ → List Part → List ℕ
@@ -67,4 +67,4 @@ unfoldable mutual
 
   pub partsOf : ℕ → List Name → Items → List Part
   partsOf floor names empty = []
-  partsOf floor names (item m t is) = record { mark = m; bytes = encode floor names t } ∷ partsOf floor names is
+  partsOf floor names (item m t is) = record { label = m; bytes = encode floor names t } ∷ partsOf floor names is

@@ -29,22 +29,36 @@ pub enum ParentEntry {
     Replaced { id: usize, offset: usize },
 }
 
-// An open container. The first four are its starting marks: the used counts at its opening.
+// An open container. The first five are its starting marks: the used counts at its opening. The last is how many marks are set in it.
 pub struct Container {
     pub value: usize,
     pub names: usize,
     pub text: usize,
     pub entries: usize,
+    pub undo: usize,
     pub parent: ParentEntry,
     pub object: bool,
     pub unique: bool,
+    pub marks: usize,
 }
 
-// The used counts, the open containers' number, the dictionary's record, the marks, and the floor: how many bytes offsets, ids and
-// dictionary numbers take at least.
+// A mark that is set: the used counts, the elements of the list that it is set in, and the uniqueness mark there, as they were then.
+pub struct Mark {
+    pub value: usize,
+    pub names: usize,
+    pub text: usize,
+    pub entries: usize,
+    pub undo: usize,
+    pub count: usize,
+    pub unique: bool,
+}
+
+// The used counts, the open containers' number, the dictionary's record, the uniqueness mark at the top, whether a finish was accepted, and
+// the floor: how many bytes offsets, ids and dictionary numbers take at least.
 pub struct Counts {
     pub value: usize,
     pub entries: usize,
+    pub undo: usize,
     pub depth: usize,
     pub dictionary: MetadataBuilder,
     pub unique: bool,
@@ -52,7 +66,8 @@ pub struct Counts {
     pub floor: usize,
 }
 
-// Beside each container its elements: how many values a list holds, a child open in it among them; of an object free.
+// Beside each container its elements: how many values a list holds, a child open in it among them; of an object free. The marks that are set
+// stand in a table of their own, which is lent beside the record.
 pub struct Builder {
     pub containers: [Container; 64],
     pub elements: [usize; 64],
@@ -60,8 +75,8 @@ pub struct Builder {
 }
 
 // What a call sees of the record: the counts; the innermost open container and its elements; its parent and the parent's elements, the
-// innermost among them; and whether at most 64 are open, no starting mark falls from one of them to the next, and no list with a child open
-// in it counts more than it can hold.
+// innermost among them; and whether at most 64 are open, no starting mark falls from one of them to the next, no list with a child open
+// in it counts more than it can hold, and the marks set in each are at most 16 and in order.
 pub struct View {
     pub counts: Counts,
     pub inner: Container,
@@ -80,9 +95,11 @@ pub fn no_container() -> Container
         names: 0,
         text: 0,
         entries: 0,
+        undo: 0,
         parent: ParentEntry::New,
         object: false,
         unique: false,
+        marks: 0,
     }
 }
 
@@ -101,6 +118,7 @@ pub fn fresh_counts(unique: bool, floor: usize) -> Counts
     Counts {
         value: 0,
         entries: 0,
+        undo: 0,
         depth: 0,
         dictionary: m,
         unique: unique,

@@ -13,34 +13,35 @@ use value::variant::VariantBytes;
 ghost use Prim.Native.Nat.{_≤_};
 
 fn main() {
-    lists();
-    texts();
-    depths();
+    let mut marks = [0usize; 7168];
+    lists(&mut marks);
+    texts(&mut marks);
+    depths(&mut marks);
 }
 
-fn lists() {
+fn lists(marks: &mut [usize; 7168]) {
     let mut n255 = [b'n'; 256];
     n255[0] = b'[';
-    case(b"list of 255 nulls", &n255, b"].");
+    case(marks, b"list of 255 nulls", &n255, b"].");
     let mut n256 = [b'n'; 257];
     n256[0] = b'[';
-    case(b"list of 256 nulls", &n256, b"].");
+    case(marks, b"list of 256 nulls", &n256, b"].");
 }
 
-fn texts() {
-    case(b"text of 63 bytes", b"", b"t.");
-    case(b"text of 64 bytes", b"", b"T.");
+fn texts(marks: &mut [usize; 7168]) {
+    case(marks, b"text of 63 bytes", b"", b"t.");
+    case(marks, b"text of 64 bytes", b"", b"T.");
 }
 
-fn depths() {
+fn depths(marks: &mut [usize; 7168]) {
     let opened = [b'['; 64];
     let mut closed = [b']'; 65];
     closed[64] = b'.';
-    case(b"depth 64", &opened, &closed);
-    case(b"depth 65", &opened, b"[");
+    case(marks, b"depth 64", &opened, &closed);
+    case(marks, b"depth 65", &opened, b"[");
 }
 
-fn case(label: &[u8], before: &[u8], last: &[u8]) {
+fn case(marks: &mut [usize; 7168], label: &[u8], before: &[u8], last: &[u8]) {
     let mut value = [0u8; 1024];
     let mut entries = [0usize; 512];
     let mut out = [0u8; 3];
@@ -49,8 +50,8 @@ fn case(label: &[u8], before: &[u8], last: &[u8]) {
         written: 0,
         builder: new(false),
     };
-    let r = run(fresh, &mut value, &mut entries, &mut out, before);
-    let s = run(r, &mut value, &mut entries, &mut out, last);
+    let r = run(fresh, marks, &mut value, &mut entries, &mut out, before);
+    let s = run(r, marks, &mut value, &mut entries, &mut out, last);
     line(label, r.number, s, &value, &out);
 }
 
@@ -81,6 +82,7 @@ fn line(label: &[u8], before: u8, s: LendCalled, value: &[u8], out: &[u8]) {
 // The calls in order, up to the first one refused.
 fn run(
     start: LendCalled,
+    marks: &mut [usize; 7168],
     value: &mut [u8],
     entries: &mut [usize],
     out: &mut [u8],
@@ -91,13 +93,14 @@ fn run(
     while i < calls.len() {
         let c = calls[i];
         i += 1;
-        r = next(r, value, entries, out, c);
+        r = next(r, marks, value, entries, out, c);
     }
     r
 }
 
 fn next(
     r: LendCalled,
+    marks: &mut [usize; 7168],
     value: &mut [u8],
     entries: &mut [usize],
     out: &mut [u8],
@@ -108,15 +111,18 @@ fn next(
     }
     let mut text = [0u8; 0];
     let mut ends = [0usize; 0];
+    let mut undo = [0usize; 0];
     let bytes = [b'a'; 64];
     let n = length(c);
     lend(
         r.builder,
+        marks,
         call_of(c),
         value,
         &mut text,
         &mut ends,
         entries,
+        &mut undo,
         false,
         b"",
         &bytes[0..n],

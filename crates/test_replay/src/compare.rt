@@ -50,7 +50,7 @@ pub fn answered(t: Tally, expected: u8, got: u8) -> Tally {
     number(t, b"number", expected as usize, got as usize)
 }
 
-// The five used counts, each expected in eight bytes.
+// The six used counts, each expected in eight bytes.
 pub fn used(t: Tally, c: Counts, expected: &[u8]) -> Tally {
     let m = c.dictionary;
     let a = number(t, b"used value bytes", expect(expected, 0), c.value);
@@ -62,7 +62,8 @@ pub fn used(t: Tally, c: Counts, expected: &[u8]) -> Tally {
         metadata_size(m),
     );
     let e = number(d, b"used entries", expect(expected, 24), c.entries);
-    number(e, b"open containers", expect(expected, 32), c.depth)
+    let f = number(e, b"open containers", expect(expected, 32), c.depth);
+    number(f, b"used undo records", expect(expected, 40), c.undo)
 }
 
 fn expect(bytes: &[u8], from: u8) -> usize {

@@ -11,6 +11,7 @@ pub struct Start {
     pub text: usize,
     pub ends: usize,
     pub entries: usize,
+    pub undo: usize,
     pub floor: usize,
 }
 
@@ -35,8 +36,8 @@ pub fn read_count() -> usize {
 
 // Where a byte is missing, too large a storage.
 pub fn read_start() -> Start {
-    let mut b = [0u8; 20];
-    if !field(&mut b, 20) {
+    let mut b = [0u8; 22];
+    if !field(&mut b, 22) {
         b[4] = 255;
     }
     Start {
@@ -47,19 +48,20 @@ pub fn read_start() -> Start {
         text: two(b[6], b[7]),
         ends: two(b[8], b[9]),
         entries: two(b[10], b[11]),
+        undo: two(b[12], b[13]),
         floor: floor_of(&b),
     }
 }
 
-fn floor_of(b: &[u8; 20]) -> usize {
-    word(b, 12) as usize
+fn floor_of(b: &[u8; 22]) -> usize {
+    word(b, 14) as usize
 }
 
 // Where a byte is missing, there is no such call or too large an output is asked for, too large an operand.
 pub fn read_header() -> Header {
     let mut b = [0u8; 10];
     let whole = field(&mut b, 10);
-    if !whole | (b[0] == 0) | (14 < b[0]) | (4 < b[4]) {
+    if !whole | (b[0] == 0) | (16 < b[0]) | (4 < b[4]) {
         b[8] = 255;
     }
     Header {

@@ -27,10 +27,12 @@ use input::read_count;
 use input::read_header;
 use input::read_start;
 use libc::STDOUT_FILENO;
+use marks::NUMBERS;
 use parse::call_of;
 use parse::uuid;
 use poke::altered;
 use poke::overwrite;
+use poke::overwrite_mark;
 use semantics::Builder;
 
 struct Replay {
@@ -43,8 +45,18 @@ fn main() {
     let mut text = [0xEEu8; 512];
     let mut ends = [99usize; 64];
     let mut entries = [99usize; 256];
+    let mut undo = [99usize; 64];
+    let mut marks = [99usize; NUMBERS];
     let n = read_count();
-    let t = scripts(n, &mut value, &mut text, &mut ends, &mut entries);
+    let t = scripts(
+        n,
+        &mut marks,
+        &mut value,
+        &mut text,
+        &mut ends,
+        &mut entries,
+        &mut undo,
+    );
     io::print_decimal(STDOUT_FILENO, t.script as u64);
     print::text(b" scripts, ");
     io::print_decimal(STDOUT_FILENO, t.calls as u64);
@@ -55,10 +67,12 @@ fn main() {
 
 fn scripts(
     n: usize,
+    marks: &mut [usize; NUMBERS],
     value: &mut [u8],
     text: &mut [u8],
     ends: &mut [usize],
     entries: &mut [usize],
+    undo: &mut [usize],
 ) -> Tally {
     let mut t = Tally {
         script: 0,
@@ -67,39 +81,46 @@ fn scripts(
         differences: 0,
         malformed: false,
     };
-    let mut i = 0;
-    while i < n {
-        t = script(t, value, text, ends, entries);
-        i += 1;
+    let mut left = n;
+    while 0 < left {
+        left -= 1;
+        t = script(t, marks, value, text, ends, entries, undo);
     }
     t
 }
 
 fn script(
     t: Tally,
+    marks: &mut [usize; NUMBERS],
     value: &mut [u8],
     text: &mut [u8],
     ends: &mut [usize],
     entries: &mut [usize],
+    undo: &mut [usize],
 ) -> Tally {
     if t.malformed {
         return t;
     }
     let s = read_start();
+    let r = begun(t, s);
     let v = min(s.value, value.len());
     let x = min(s.text, text.len());
     let k = min(s.ends, ends.len());
     let e = min(s.entries, entries.len());
-    if (v < s.value) | (x < s.text) | (k < s.ends) | (e < s.entries) {
-        return malformed(t);
+    let u = min(s.undo, undo.len());
+    let short = (v < s.value) | (x < s.text) | (k < s.ends);
+    if short | (e < s.entries) | (u < s.undo) {
+        return malformed(r.tally);
     }
     run(
-        begun(t, s),
+        r,
         s.calls,
         &mut value[0..v],
         &mut text[0..x],
         &mut ends[0..k],
         &mut entries[0..e],
+        &mut undo[0..u],
+        marks,
     )
 }
 
@@ -127,12 +148,14 @@ fn run(
     text: &mut [u8],
     ends: &mut [usize],
     entries: &mut [usize],
+    undo: &mut [usize],
+    marks: &mut [usize; NUMBERS],
 ) -> Tally {
     let mut r = begun;
-    let mut i = 0;
-    while i < n {
-        r = next(r, value, text, ends, entries);
-        i += 1;
+    let mut left = n;
+    while 0 < left {
+        left -= 1;
+        r = next(r, marks, value, text, ends, entries, undo);
     }
     r.tally
 }
@@ -140,10 +163,12 @@ fn run(
 // The next line.
 fn next(
     r: Replay,
+    marks: &mut [usize; NUMBERS],
     value: &mut [u8],
     text: &mut [u8],
     ends: &mut [usize],
     entries: &mut [usize],
+    undo: &mut [usize],
 ) -> Replay {
     if r.tally.malformed {
         return r;
@@ -158,7 +183,7 @@ fn next(
     let m = min(h.operand, 2048);
     let name = &name[0..n];
     let operand = &operand[0..m];
-    done(r, value, text, ends, entries, h, name, operand)
+    done(r, marks, value, text, ends, entries, undo, h, name, operand)
 }
 
 fn stopped(r: Replay) -> Replay {
@@ -172,10 +197,12 @@ fn stopped(r: Replay) -> Replay {
 // A poke, a look at the record, or a call.
 fn done(
     r: Replay,
+    marks: &mut [usize; NUMBERS],
     value: &mut [u8],
     text: &mut [u8],
     ends: &mut [usize],
     entries: &mut [usize],
+    undo: &mut [usize],
     h: Header,
     name: &[u8],
     operand: &[u8],
@@ -183,11 +210,12 @@ fn done(
     let c = h.call;
     match c {
         11 => {
-            overwrite(value, text, ends, entries, h, operand);
+            overwrite(value, text, ends, entries, undo, h, operand);
+            overwrite_mark(marks, h, operand);
             poked(r, h, operand)
         }
         12 => looked(r, value, h, name, operand),
-        _ => called(r, value, text, ends, entries, h, name, operand),
+        _ => called(r, marks, value, text, ends, entries, undo, h, name, operand),
     }
 }
 
@@ -218,10 +246,12 @@ fn looked(r: Replay, value: &[u8], h: Header, counts: &[u8], expected: &[u8]) ->
 
 fn called(
     r: Replay,
+    marks: &mut [usize; NUMBERS],
     value: &mut [u8],
     text: &mut [u8],
     ends: &mut [usize],
     entries: &mut [usize],
+    undo: &mut [usize],
     h: Header,
     name: &[u8],
     operand: &[u8],
@@ -233,11 +263,13 @@ fn called(
     let out = &mut space[0..size];
     let d = lend(
         r.builder,
+        marks,
         call,
         value,
         text,
         ends,
         entries,
+        undo,
         h.named,
         name,
         operand,

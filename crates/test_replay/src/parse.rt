@@ -24,6 +24,8 @@ pub fn call_of(h: Header, operand: &[u8]) -> Call {
         9 => Call::AppendValue(scalar(argument, operand)),
         13 => Call::AppendCivil(civil(argument, operand)),
         14 => Call::AppendPacked(argument),
+        15 => Call::Mark,
+        16 => Call::ReturnTo(word(operand, 0) as usize),
         _ => Call::Finish,
     }
 }

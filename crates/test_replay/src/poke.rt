@@ -4,6 +4,7 @@ use crate::parse::word;
 use container::Entry;
 use container::put_entry;
 use encoding::slices::write_slice;
+use marks::NUMBERS;
 use metadata::from_parts;
 use metadata::metadata_size;
 use metadata::num_field_names;
@@ -24,12 +25,12 @@ pub fn altered(b: Builder, h: Header, operand: &[u8]) -> Builder {
     let cs = b.containers;
     let ns = b.elements;
     match which {
-        0..=7 | 20 => Builder {
+        0..=7 | 20 | 22 => Builder {
             containers: cs,
             elements: ns,
             counts: counts(c, which, n),
         },
-        8..=15 => contained(b, which, h.size, n, number(operand, 8)),
+        8..=15 | 24 | 25 => contained(b, which, h.size, n, number(operand, 8)),
         21 => elements(b, h.size, n),
         _ => b,
     }
@@ -47,6 +48,7 @@ fn counts(before: Counts, which: u8, n: usize) -> Counts {
         5 => c.unique = n == 1,
         7 => c.finished = n == 1,
         20 => c.floor = n,
+        22 => c.undo = n,
         // The record has no sorted mark to set.
         _ => c.dictionary = m,
     }
@@ -91,6 +93,8 @@ fn container(before: Container, which: u8, n: usize, m: usize) -> Container {
         11 => k.entries = n,
         12 => k.object = n == 1,
         13 => k.unique = n == 1,
+        24 => k.undo = n,
+        25 => k.marks = n,
         14 => k = parent(k, ParentEntry::New),
         _ => k = parent(k, ParentEntry::Replaced { id: n, offset: m }),
     }
@@ -103,9 +107,11 @@ fn parent(k: Container, parent: ParentEntry) -> Container {
         names: k.names,
         text: k.text,
         entries: k.entries,
+        undo: k.undo,
         parent,
         object: k.object,
         unique: k.unique,
+        marks: k.marks,
     }
 }
 
@@ -114,6 +120,7 @@ pub fn overwrite(
     text: &mut [u8],
     ends: &mut [usize],
     entries: &mut [usize],
+    undo: &mut [usize],
     h: Header,
     operand: &[u8],
 ) {
@@ -125,7 +132,23 @@ pub fn overwrite(
         17 => entry(entries, at, n, number(operand, 8)),
         18 => bytes(value, at, operand),
         19 => bytes(text, at, operand),
+        23 => entry(undo, at, n, number(operand, 8)),
         _ => {}
+    }
+}
+
+// A number of a mark: seven stand for each, in the order of the pokes.
+pub fn overwrite_mark(marks: &mut [usize; NUMBERS], h: Header, operand: &[u8]) {
+    let which = h.argument as usize;
+    let mark = h.size;
+    if which < 26 {
+        return;
+    }
+    if 32 < which {
+        return;
+    }
+    if mark < 1024 {
+        marks[7 * mark + (which - 26)] = number(operand, 0);
     }
 }
 

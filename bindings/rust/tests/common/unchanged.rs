@@ -10,10 +10,10 @@ pub fn refused(number: u8, b: &mut VariantBuilder, call: impl FnOnce(&mut Varian
     assert!(all(b) == before, "{refusal} changed something");
 }
 
-fn all(b: &mut VariantBuilder) -> ([Vec<usize>; 3], [Vec<u8>; 2]) {
-    let words = b.words().to_vec();
+fn all(b: &mut VariantBuilder) -> ([Vec<usize>; 5], [Vec<u8>; 2]) {
+    let (words, marks) = (b.words().to_vec(), b.marks().to_vec());
     let s = b.storage_mut();
-    ([words, s.ends.to_vec(), s.entries.to_vec()], [s.value.to_vec(), s.text.to_vec()])
+    ([words, marks, s.ends.to_vec(), s.entries.to_vec(), s.undo.to_vec()], [s.value.to_vec(), s.text.to_vec()])
 }
 
 /// Every call is refused with that number.
@@ -29,6 +29,8 @@ pub fn all_refused(number: u8, b: &mut VariantBuilder) {
     refused(number, b, |b| b.close());
     refused(number, b, |b| b.rollback());
     refused(number, b, |b| b.with_validate_unique_fields(true));
+    refused(number, b, |b| b.mark().map(|_| ()));
+    refused(number, b, |b| b.return_to(1));
     refused(number, b, |b| finish(b, 9));
 }
 

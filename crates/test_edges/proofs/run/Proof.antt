@@ -8,11 +8,11 @@ use Rattle.test_edges.proofs.run.Statement.{statement}
 use Rattle.test_edges.proofs.run.Tie as tie
 
 abbrev Inv-loop : tie.InvT-loop
-Inv-loop value₀ entries₀ out₀ calls r₀ i₀ value entries out r i =
+Inv-loop marks₀ value₀ entries₀ out₀ calls r₀ i₀ marks value entries out r i =
     (i ≤ length calls) × (length value ≡ length value₀) × (length entries ≡ length entries₀) × (length out ≡ length out₀)
 
 abbrev μ-loop : tie.MeasureT-loop
-μ-loop value₀ entries₀ out₀ calls r₀ i₀ value entries out r i = length calls - i
+μ-loop marks₀ value₀ entries₀ out₀ calls r₀ i₀ marks value entries out r i = length calls - i
 
 pub run-spec : {M : Type 1} → statement M
 run-spec =

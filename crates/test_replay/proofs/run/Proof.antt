@@ -2,17 +2,17 @@
 use borrow.Author.Needs.{needs}
 use native.Mathlib.Omega.{arith}
 use mathlib.Core.Path.{_≡_, refl}
-use Prim.Native.Nat.{_≤_, _-_}
 use lib.ListN.{length}
 use Rattle.test_replay.proofs.run.Statement.{statement}
 use Rattle.test_replay.proofs.run.Tie as tie
 
 abbrev Inv-loop : tie.InvT-loop
-Inv-loop n value₀ text₀ ends₀ entries₀ r₀ i₀ value text ends entries r i =
-    (i ≤ n) × (length value ≡ length value₀) × (length text ≡ length text₀) × (length ends ≡ length ends₀) × (length entries ≡ length entries₀)
+Inv-loop n value₀ text₀ ends₀ entries₀ undo₀ marks₀ r₀ left₀ value text ends entries undo marks r left =
+    (length value ≡ length value₀) × (length text ≡ length text₀) × (length ends ≡ length ends₀) × (length entries ≡ length entries₀)
+    × (length undo ≡ length undo₀)
 
 abbrev μ-loop : tie.MeasureT-loop
-μ-loop n value₀ text₀ ends₀ entries₀ r₀ i₀ value text ends entries r i = n - i
+μ-loop n value₀ text₀ ends₀ entries₀ undo₀ marks₀ r₀ left₀ value text ends entries undo marks r left = left
 
 pub run-spec : {M : Type 1} → statement M
 run-spec =
@@ -20,11 +20,12 @@ run-spec =
     (tie.spec
     Inv-loop
     μ-loop
-    (λ c. (omega arith, refl, refl, refl, refl))
+    (λ c. (refl, refl, refl, refl, refl))
+    (λ c. omega arith)
     (λ c κs. search needs)
     (λ c. omega arith)
-    (λ c. omega arith)
     (λ c. search needs)
+    (λ c. c .before .before .loop .inv .0)
     (λ c. c .before .before .loop .inv .1)
     (λ c. c .before .before .loop .inv .2)
     (λ c. c .before .before .loop .inv .3)

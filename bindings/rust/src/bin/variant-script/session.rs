@@ -4,9 +4,9 @@ use crate::{beside, poke};
 use std::fmt::Write;
 use variant_writer::{listing, Refusal, VariantBuilder};
 
-const VERBS: &str = "a call: new, register, append, open, close, rollback, unique, finish, days, civil, packdec, readdec, batchstart, \
-    batchadd, batchread, poke, dump or dumpvalue";
-const SETTINGS: [&str; 7] = ["unique", "value", "namebytes", "names", "entries", "fill", "floor"];
+const VERBS: &str = "a call: new, register, append, open, close, rollback, unique, mark, return, finish, days, civil, packdec, readdec, \
+    batchstart, batchadd, batchread, poke, dump or dumpvalue";
+const SETTINGS: [&str; 8] = ["unique", "value", "namebytes", "names", "entries", "fill", "floor", "undo"];
 
 pub struct Session {
     builder: Option<VariantBuilder<'static>>,
@@ -24,7 +24,7 @@ impl Session {
         let words: Vec<&str> = said.split(blank).filter(|word| !word.is_empty()).collect();
         let Some((&verb, rest)) = words.split_first() else { return Ok(()) };
         match (verb, &mut self.builder) {
-            ("new", _) => self.start(settings(rest, &SETTINGS, [0, 4096, 1024, 64, 256, 0, 1])?, out),
+            ("new", _) => self.start(settings(rest, &SETTINGS, [0, 4096, 1024, 64, 256, 0, 1, 64])?, out),
             _ if beside::VERBS.contains(&verb) => beside::answer(verb, rest, out),
             (_, Some(builder)) => answer_on(builder, verb, rest, self.listing, out),
             (_, None) => answer_without(verb, rest, out),
@@ -32,9 +32,12 @@ impl Session {
     }
 
     /// A fresh builder, over storage all filled; a refused one leaves none.
-    fn start(&mut self, [unique, value, text, names, entries, fill, floor]: [usize; 7], out: &mut String) -> Expected<()> {
-        let mut builder = lent(self.builder.take(), [value, text, names, entries], fill)?;
+    fn start(&mut self, [unique, value, text, names, entries, fill, floor, undo]: [usize; 8], out: &mut String) -> Expected<()> {
+        let mut builder = lent(self.builder.take(), [value, text, names, entries, undo], fill)?;
         builder.words_mut().fill(0);
+        if builder.marks().iter().any(|n| *n != 0) {
+            builder.marks_mut().fill(0);
+        }
         match builder.reset_with_floor(unique != 0, floor) {
             Ok(()) => {
                 self.builder = Some(builder);
@@ -47,22 +50,24 @@ impl Session {
 }
 
 /// A builder over storage of these sizes, filled: the old one's where it has them.
-fn lent(old: Option<VariantBuilder<'static>>, sizes: [usize; 4], fill: usize) -> Expected<VariantBuilder<'static>> {
-    let (byte, [value, text, names, entries]) = (fill as u8, sizes);
+fn lent(old: Option<VariantBuilder<'static>>, sizes: [usize; 5], fill: usize) -> Expected<VariantBuilder<'static>> {
+    let (byte, [value, text, names, entries, undo]) = (fill as u8, sizes);
     if let Some(mut builder) = old {
         let s = builder.storage_mut();
-        if [s.value.len(), s.text.len(), s.ends.len(), s.entries.len()] == sizes {
+        if [s.value.len(), s.text.len(), s.ends.len(), s.entries.len(), s.undo.len()] == sizes {
             s.value.fill(byte);
             s.text.fill(byte);
             s.ends.fill(fill);
             s.entries.fill(fill);
+            s.undo.fill(fill);
             return Ok(builder);
         }
     }
-    if ![value, text].into_iter().all(room::<u8>) || ![names, entries].into_iter().all(room::<usize>) {
+    if ![value, text].into_iter().all(room::<u8>) || ![names, entries, undo].into_iter().all(room::<usize>) {
         return Err("storage of a size that memory has".into());
     }
-    Ok(VariantBuilder::lend(vec![byte; value], vec![byte; text], vec![fill; names], vec![fill; entries]))
+    let builder = VariantBuilder::lend(vec![byte; value], vec![byte; text], vec![fill; names], vec![fill; entries]);
+    Ok(builder.lend_undo(vec![fill; undo]))
 }
 
 /// The answer to a line but `new`: its call, poke or dump made on the builder.
@@ -120,19 +125,32 @@ fn call(b: &mut VariantBuilder, verb: &str, rest: &[&str]) -> Expected<Result<()
         ("register", []) => b.add_field_name(&[]),
         ("register", [word, ..]) => b.add_field_name(&bytes(word)?),
         ("append", _) => append(b, rest)?,
-        ("open", _) => match name(rest)? {
-            (name, ["list"]) => b.new_list(name.as_deref()),
-            (name, ["object"]) => b.new_object(name.as_deref()),
-            _ => return Err("open [name=BYTES|-] list|object".into()),
-        },
+        ("open", _) => open(b, rest)?,
         ("close", []) => close(b),
         ("rollback", []) => b.rollback(),
         ("unique", ["0"]) => b.with_validate_unique_fields(false),
         ("unique", ["1"]) => b.with_validate_unique_fields(true),
         ("unique", _) => return Err("unique 0|1".into()),
-        ("close" | "rollback" | "dump" | "dumpvalue", _) => return Err(format!("nothing after `{verb}`")),
+        ("mark", []) => b.mark().map(|_| ()),
+        ("return", [n]) if n.bytes().all(|d| d.is_ascii_digit()) => b.return_to(unsigned(n)?),
+        ("return", _) => return Err("return N, N in digits alone".into()),
+        ("close" | "rollback" | "mark" | "dump" | "dumpvalue", _) => return Err(format!("nothing after `{verb}`")),
         _ => return Err(format!("{VERBS}, for {verb:?}")),
     })
+}
+
+/// What the table of marks holds for a container that has none yet is free: it is made zeros, as the model has it.
+fn open(b: &mut VariantBuilder, rest: &[&str]) -> Expected<Result<(), Refusal>> {
+    let depth = b.words()[2];
+    let opened = match name(rest)? {
+        (name, ["list"]) => b.new_list(name.as_deref()),
+        (name, ["object"]) => b.new_object(name.as_deref()),
+        _ => return Err("open [name=BYTES|-] list|object".into()),
+    };
+    if opened.is_ok() {
+        poke::clear_marks(b, depth);
+    }
+    Ok(opened)
 }
 
 fn append(b: &mut VariantBuilder, rest: &[&str]) -> Expected<Result<(), Refusal>> {

@@ -8,19 +8,19 @@ use Rattle.actions.proofs.append.append_bytes_over.Tie as tie
 returns : tie.Need-returns
 returns c =
     let e = c .before .before .before .before .before .before .before in
-    let o = e .before .before .before .before .before in
-    let a = o .before .before .before .before .before .before .before .before .before .args in
+    let o = e .before .before .before .before .before .before in
+    let a = o .before .before .before .before .before .before .before .before .before .before .args in
     append-stays (bytes (a .kind) (a .bytes .now)) (own-row 8 (o .row .ensures) (o .before .ill-formed .ensures)) (λ _. o .before .before .bytes-size .ensures) (e .enter-over .ensures) (c .if1 .taken)
 
 returns-2 : tie.Need-returns-2
 returns-2 c =
-    let n = c .before .before .before .before .before .before in
-    let i = n .before .before in
+    let n = c .before .before .before .before .before .before .before .before in
+    let i = n .before .before .before in
     let e = i .before .before .before .before .before .before .before in
-    let o = e .before .before .before .before .before in
-    let a = o .before .before .before .before .before .before .before .before .before .args in
+    let o = e .before .before .before .before .before .before in
+    let a = o .before .before .before .before .before .before .before .before .before .before .args in
     append-writes (bytes (a .kind) (a .bytes .now)) (own-row 8 (o .row .ensures) (o .before .ill-formed .ensures)) (λ _. o .before .before .bytes-size .ensures) (e .enter-over .ensures)
-    (i .if1 .left) (n .note .ensures .1) (λ _. c .before .before .write-bytes .ensures)
+    (i .if1 .left) (n .note .ensures .1) (n .note .ensures .2) (λ _. c .before .before .write-bytes .ensures)
 
 pub append-bytes-over-spec : {M : Type 1} → statement M
 append-bytes-over-spec =
@@ -34,9 +34,11 @@ append-bytes-over-spec =
     (λ c. search needs)
     (λ c. search needs)
     (λ c. search needs)
+    (λ c. search needs)
     returns
     (λ c κs. search needs)
     (λ c κs. search needs)
+    (λ c. search needs)
     (λ c. search needs)
     (λ c. search needs)
     (λ c. search needs)

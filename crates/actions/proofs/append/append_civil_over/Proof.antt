@@ -8,9 +8,9 @@ use Rattle.actions.proofs.append.append_civil_over.Tie as tie
 
 returns : tie.Need-returns
 returns c =
-    let o = c .before .before .before .before .before .before .before .before in
-    let w = o .before .before .before .before .before in
-    let x = w .before .before .before .before .before .before .args .x in
+    let o = c .before .before .before .before .before .before .before .before .before .before in
+    let w = o .before .before .before .before .before .before in
+    let x = w .before .before .before .before .before .before .before .args .x in
     o .append-own .ensures (civil x) (own-stored (civil x) (civilVariant x) refl (w .civil-own .ensures))
 
 pub append-civil-over-spec : {M : Type 1} → statement M
@@ -19,6 +19,7 @@ append-civil-over-spec =
     (tie.spec
     (λ c κs. search needs)
     (λ c κs. search needs)
+    (λ c. search needs)
     (λ c. search needs)
     (λ c. search needs)
     (λ c. search needs)

@@ -8,9 +8,9 @@ use Rattle.actions.proofs.append.append_packed_over.Tie as tie
 
 returns : tie.Need-returns
 returns c =
-    let o = c .before .before .before .before .before .before .before .before in
-    let w = o .before .before .before .before .before in
-    let a = w .before .before .before .before .before .before .before .args in
+    let o = c .before .before .before .before .before .before .before .before .before .before in
+    let w = o .before .before .before .before .before .before in
+    let a = w .before .before .before .before .before .before .before .before .args in
     o .append-own .ensures (packed (a .scale) (a .bytes .now)) (own-stored (packed (a .scale) (a .bytes .now)) (packedVariant (a .bytes .now) (a .scale)) refl (w .packed-own .ensures))
 
 pub append-packed-over-spec : {M : Type 1} → statement M
@@ -19,6 +19,7 @@ append-packed-over-spec =
     (tie.spec
     (λ c κs. search needs)
     (λ c κs. search needs)
+    (λ c. search needs)
     (λ c. search needs)
     (λ c. search needs)
     (λ c. search needs)

@@ -6,11 +6,11 @@ use Rattle.actions.proofs.dictionary.finish_over.Statement.{statement}
 use Rattle.actions.proofs.dictionary.finish_over.Tie as tie
 
 -- none of these holds
-left : (c : tie.Else1) → let a = c .before .before .before .before .before .before .before .before .args in Finishable (a .v) (storageOf (a .value .now) (a .text .now) (a .ends .now) (a .entries .now)) (a .out .now)
-left c = finishable (c .before .before .finish-number .ensures (c .before .before .before .before .before .before .before .before .args .out .now)) (c .if1 .left)
+left : (c : tie.Else1) → let a = c .before .before .before .before .before .before .before .before .before .args in Finishable (a .v) (storageOf (a .value .now) (a .text .now) (a .ends .now) (a .entries .now) (a .undo .now)) (a .out .now)
+left c = finishable (c .before .before .finish-number .ensures (c .before .before .before .before .before .before .before .before .before .args .out .now)) (c .if1 .left)
 
 returns : tie.Need-returns
-returns c = finishes-early (c .before .before .finish-number .ensures (c .before .before .before .before .before .before .before .before .args .out .now)) (c .if1 .taken)
+returns c = finishes-early (c .before .before .finish-number .ensures (c .before .before .before .before .before .before .before .before .before .args .out .now)) (c .if1 .taken)
 
 returns-2 : tie.Need-returns-2
 returns-2 c = let h = c .before .before .before .before in ends-damaged (left (h .before .before .before)) (h .finish .ensures) (c .enum-told .given .1)

@@ -4,7 +4,7 @@ use Rattle.actions.proofs.open.register.Statement.{statement}
 use Rattle.actions.proofs.open.register.Tie as tie
 
 returns : tie.Need-returns
-returns c = registers (c .before .before .before .before .before .before .before .before .before .before .before .before .before .args .name .now) (c .before .before .before .before .before .enter-over .ensures)
+returns c = registers (c .before .before .before .before .before .before .before .before .before .before .before .before .before .before .args .name .now) (c .before .before .before .before .before .enter-over .ensures)
 
 pub register-spec : {M : Type 1} → statement M
 register-spec =

@@ -7,15 +7,14 @@ use Rattle.actions.proofs.undo.rollback_over.Tie as tie
 returns : tie.Need-returns
 returns c = refuses (c .before .before .before .rollback-number .ensures .number) (c .if1 .taken)
 
-sub-t18 : tie.Need-sub-t18
-sub-t18 c = let i = c .before .before .before .before .before .before .before .before in rollback-open _ _ (i .before .before .before .rollback-number .ensures .number) (i .if1 .left)
-
 returns-2 : tie.Need-returns-2
 returns-2 c =
     let f = c .before .before in
     let u = f .before .before .before in
-    let i = u .before .before .before .before in
-    leaves-undone (i .before .before .before .rollback-number .ensures) (i .if1 .left) (u .undo .ensures .0) (u .undo .ensures .1) (f .from-parts .ensures) (c .siblings-left .ensures)
+    let r = u .before .before in
+    let i = r .before .before .before .before in
+    leaves-undone (i .before .before .before .rollback-number .ensures) (i .if1 .left) (u .entries-left .ensures .0) (r .records-left .ensures) (u .entries-left .ensures .1) (f .from-parts .ensures)
+    (c .siblings-left .ensures)
 
 pub rollback-over-spec : {M : Type 1} → statement M
 rollback-over-spec =
@@ -26,7 +25,8 @@ rollback-over-spec =
     returns
     (λ c κs. search needs)
     (λ c κs. search needs)
-    sub-t18
+    (λ c κs. search needs)
+    (λ c. let i = c .before .before .before .before .before .before .before .before .before .before in rollback-open _ _ (i .before .before .before .rollback-number .ensures .number) (i .if1 .left))
     (λ c κs. search needs)
     (λ c. search needs)
     returns-2)

@@ -1,5 +1,4 @@
 use borrow.Author.Needs.{needs}
-use mathlib.Core.Path.{refl}
 use Rattle.refusals.specs.Decide.{nameOf}
 use Rattle.builder.proofs.CallLaws.{does-moved}
 use Rattle.semantics.specs.Record.{append, fixed, storageOf}
@@ -8,10 +7,11 @@ use Rattle.builder.proofs.calls.append_value.Tie as tie
 
 returns : tie.Need-returns
 returns c =
-    let r = c .before .before .before .before .before .before .before .before .before in
-    let v = r .before .before .before .before .before in
-    let a = v .before .before .before .before .before .before .args in
-    does-moved (a .b) (storageOf (a .value .now) (a .text .now) (a .ends .now) (a .entries .now)) (append (nameOf (a .named) (a .name .now)) (fixed (a .x))) refl tt (v .view-of .ensures) (r .append-value-over .ensures) (c .called .ensures)
+    let r = c .before .before .before .before .before .before .before .before .before .before .before in
+    let v = r .before .before .before .before .before .before in
+    let a = v .before .before .before .before .before .before .before .args in
+    let l = (storageOf (a .value .now) (a .text .now) (a .ends .now) (a .entries .now) (a .undo .now)) in
+    does-moved (a .b) (a .marks .now) l (append (nameOf (a .named) (a .name .now)) (fixed (a .x))) tt (v .view-of .ensures) (r .append-value-over .ensures) (c .called .ensures)
 
 pub append-value-spec : {M : Type 1} → statement M
 append-value-spec =
@@ -20,6 +20,7 @@ append-value-spec =
     (λ c κs. search needs)
     (λ c κs. search needs)
     (λ c κs. search needs)
+    (λ c. search needs)
     (λ c. search needs)
     (λ c. search needs)
     (λ c. search needs)

@@ -1,5 +1,4 @@
 use borrow.Author.Needs.{needs}
-use mathlib.Core.Path.{refl}
 use Rattle.builder.proofs.CallLaws.{does-moved}
 use Rattle.semantics.specs.Record.{close, storageOf}
 use Rattle.builder.proofs.calls.close.Statement.{statement}
@@ -9,8 +8,9 @@ returns : tie.Need-returns
 returns c =
     let r = c .before .before .before .before .before in
     let v = r .before .before .before in
-    let a = v .before .before .before .before .before .args in
-    does-moved (a .b) (storageOf (a .value .now) (a .text .now) (a .ends .now) (a .entries .now)) close refl tt (v .view-of .ensures) (r .close-over .ensures) (c .called .ensures)
+    let a = v .before .before .before .before .before .before .args in
+    let l = (storageOf (a .value .now) (a .text .now) (a .ends .now) (a .entries .now) (a .undo .now)) in
+    does-moved (a .b) (a .marks .now) l close tt (v .view-of .ensures) (r .close-over .ensures) (c .called .ensures)
 
 pub close-spec : {M : Type 1} → statement M
 close-spec =

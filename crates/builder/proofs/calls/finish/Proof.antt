@@ -8,8 +8,9 @@ returns : tie.Need-returns
 returns c =
     let r = c .before .before .before .before .before .before in
     let v = r .before .before in
-    let a = v .before .before .before .before .before .before .args in
-    does-finished (a .b) (storageOf (a .value .now) (a .text .now) (a .ends .now) (a .entries .now)) (a .out .now) (v .view-of .ensures) (r .finish-over .ensures) (rw (c .finish-answer .ensures))
+    let a = v .before .before .before .before .before .before .before .args in
+    let l = (storageOf (a .value .now) (a .text .now) (a .ends .now) (a .entries .now) (a .undo .now)) in
+    does-finished (a .b) (a .marks .now) l (a .out .now) (v .view-of .ensures) (r .finish-over .ensures) (rw (c .finish-answer .ensures))
 
 pub finish-spec : {M : Type 1} → statement M
 finish-spec =

@@ -1,7 +1,8 @@
 use borrow.Author.Needs.{needs}
+use mathlib.Core.Path.{refl}
 use native.Mathlib.Omega.{arith}
-use Rattle.semantics.specs.Record.{storageOf}
-use Rattle.builder.proofs.CallLaws.{unique-refused, unique-done, unique-inside}
+use Rattle.semantics.specs.Record.{uniqueness, storageOf}
+use Rattle.builder.proofs.CallLaws.{Inside, does-refused, unique-done, unique-inside}
 use Rattle.builder.proofs.calls.with_validate_unique_fields.Statement.{statement}
 use Rattle.builder.proofs.calls.with_validate_unique_fields.Tie as tie
 
@@ -9,29 +10,29 @@ returns : tie.Need-returns
 returns c =
     let r = c .before .before in
     let v = r .before in
-    let a = v .before .before .before .before .before .args in
-    unique-refused (a .b) (storageOf (a .value .now) (a .text .now) (a .ends .now) (a .entries .now)) (a .unique) (v .view-of .ensures) (r .unique-over .ensures) (c .before .if1 .taken) (c .answer-of .ensures)
+    let a = v .before .before .before .before .before .before .args in
+    let l = (storageOf (a .value .now) (a .text .now) (a .ends .now) (a .entries .now) (a .undo .now)) in
+    does-refused (a .b) (a .marks .now) l (v .view-of .ensures) (uniqueness (a .unique)) (r .unique-over .ensures .number) (c .before .if1 .taken) (c .answer-of .ensures) (λ z. refl)
 
-sub-called-with : tie.Need-sub-called-with
-sub-called-with c =
+-- the innermost is one of the 64
+inside : (c : tie.After-struct-known) → Inside (c .before .before .before .before .before .before .before .before .before .before .before .before .args .b)
+inside c =
     let r = c .before .before .before .before .before in
     let v = r .before in
-    let a = v .before .before .before .before .before .args in
-    unique-inside (a .b) (storageOf (a .value .now) (a .text .now) (a .ends .now) (a .entries .now)) (a .unique) (v .view-of .ensures) (r .unique-over .ensures) (c .before .before .before .before .if1 .left) .0
+    let a = v .before .before .before .before .before .before .args in
+    let l = (storageOf (a .value .now) (a .text .now) (a .ends .now) (a .entries .now) (a .undo .now)) in
+    unique-inside (a .b) (a .marks .now) l (v .view-of .ensures) (r .unique-over .ensures) (c .before .before .before .before .if1 .left)
 
 called-with-requires : tie.Need-called-with-requires
-called-with-requires c κs =
-    let r = c .before .before .before .before .before in
-    let v = r .before in
-    let a = v .before .before .before .before .before .args in
-    omega (arith, unique-inside (a .b) (storageOf (a .value .now) (a .text .now) (a .ends .now) (a .entries .now)) (a .unique) (v .view-of .ensures) (r .unique-over .ensures) (c .before .before .before .before .if1 .left))
+called-with-requires c κs = omega (arith, inside c)
 
 returns-2 : tie.Need-returns-2
 returns-2 c =
     let r = c .before .before .before .before .before .before in
     let v = r .before in
-    let a = v .before .before .before .before .before .args in
-    unique-done (a .b) (storageOf (a .value .now) (a .text .now) (a .ends .now) (a .entries .now)) (a .unique) (v .view-of .ensures) (r .unique-over .ensures) (c .before .before .before .before .before .if1 .left) (c .called-with .ensures)
+    let a = v .before .before .before .before .before .before .args in
+    let l = (storageOf (a .value .now) (a .text .now) (a .ends .now) (a .entries .now) (a .undo .now)) in
+    unique-done (a .b) (a .marks .now) l (v .view-of .ensures) (r .unique-over .ensures) (c .before .before .before .before .before .if1 .left) (c .called-with .ensures)
 
 pub with-validate-unique-fields-spec : {M : Type 1} → statement M
 with-validate-unique-fields-spec =
@@ -41,6 +42,6 @@ with-validate-unique-fields-spec =
     (λ c κs. search needs)
     (λ c κs. search needs)
     returns
-    sub-called-with
+    (λ c. inside c .0)
     called-with-requires
     returns-2)

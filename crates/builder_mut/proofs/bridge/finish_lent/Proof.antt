@@ -16,17 +16,18 @@ use types.Kit.{Given}
 use denote.RattleType.{RattleType}
 use denote.Builtin.{u8, usize}
 use denote.Signature.{typesAt}
+use denote.Array.{Array}
 use denote.Struct.Laws as LL
 use denote.Triple.Spec.{Meets, tripleOf}
 use denote.Triple.Statement.{Triple}
 use denote.Triple.Table.{entered, cited}
-use Rattle.semantics.specs.Record.{finish as finishOf, storageOf}
+use Rattle.semantics.specs.Record.{finish as finishOf, storageOf, tableSize}
 use Rattle.semantics.specs.Step.{step}
 use Rattle.builder.specs.Calls.{Finishes, state}
 use Rattle.builder_mut.specs.Calls.{FinishesThin}
 use Rattle.semantics.proofs.Builder as B
 use Rattle.semantics.proofs.Builder.Laws as B′
-use Rattle.builder_mut.proofs.Lent.{Ways, lent-slice, shr-slice, spellsOf, tellsOf, vssOf}
+use Rattle.builder_mut.proofs.Lent.{Ways, lent-slice, shr-ref, shr-slice, spellsOf, tellsOf, vssOf}
 use Rattle.builder_mut.proofs.ThinLaws.{finishCalled, others, spelled}
 use Rattle.builder_mut.proofs.BridgeLaws.{lent-meets, thin-finishes}
 use Rattle.builder_mut.proofs.thin.finish as callee
@@ -40,11 +41,11 @@ use Rattle.builder_mut.proofs.bridge.finish_lent.Code as code
 
 module _ {M : Type 1} (𝓤 : URA M) (H : Heap 𝓤) (A : Atoms 𝓤) (W : Given 𝓤 H A) (mem : Memory → SProp 𝓤) (run : Routine → Fun 𝓤) (𝓣 : Tables 𝓤 H) where
   -- the types of the parameters but for the record, and how each is passed on
-  abbrev Rs : Lfts 5 → List RattleType
+  abbrev Rs : Lfts 7 → List RattleType
   Rs κs = typesAt (others (self.signature .params)) κs
 
-  abbrev ways : (κs : Lfts 5) → Ways (Rs κs)
-  ways κs = (shr-slice 𝓤 H A W (lft 0) (κs .0) u8, (shr-slice 𝓤 H A W (lft 1) (κs .1 .0) u8, (shr-slice 𝓤 H A W (lft 2) (κs .1 .1 .0) usize, (shr-slice 𝓤 H A W (lft 3) (κs .1 .1 .1 .0) usize, (lent-slice (lft 4) (κs .1 .1 .1 .1 .0) u8, tt)))))
+  abbrev ways : (κs : Lfts 7) → Ways (Rs κs)
+  ways κs = (shr-ref 𝓤 H A W (lft 0) (κs .0) (Array usize tableSize), (shr-slice 𝓤 H A W (lft 1) (κs .1 .0) u8, (shr-slice 𝓤 H A W (lft 2) (κs .1 .1 .0) u8, (shr-slice 𝓤 H A W (lft 3) (κs .1 .1 .1 .0) usize, (shr-slice 𝓤 H A W (lft 4) (κs .1 .1 .1 .1 .0) usize, (shr-slice 𝓤 H A W (lft 5) (κs .1 .1 .1 .1 .1 .0) usize, (lent-slice (lft 6) (κs .1 .1 .1 .1 .1 .1 .0) u8, tt)))))))
 
   meets : Triple 𝓤 (𝓣 .C #callee) (tripleOf 𝓤 H A callee.signature (callee.spec 𝓤 H A mem run)) → Meets 𝓤 H A self.signature (WpFn 𝓤 H (𝓣 .C) (𝓣 .Λ) code.function) (self.spec 𝓤 H A mem run)
   meets known y =
@@ -52,17 +53,19 @@ module _ {M : Type 1} (𝓤 : URA M) (H : Heap 𝓤) (A : Atoms 𝓤) (W : Given
       let qs = y .0 .1 in
       let b = y .0 .3 .0 in
       let a = y .0 .3 .1 in
-      let value = a .0 .now in
-      let text = a .1 .0 .now in
-      let ends = a .1 .1 .0 .now in
-      let entries = a .1 .1 .1 .0 .now in
-      let out = a .1 .1 .1 .1 .0 .now in
-      let s = state b (storageOf value text ends entries) in
+      let marks = a .0 .now in
+      let value = a .1 .0 .now in
+      let text = a .1 .1 .0 .now in
+      let ends = a .1 .1 .1 .0 .now in
+      let entries = a .1 .1 .1 .1 .0 .now in
+      let undo = a .1 .1 .1 .1 .1 .0 .now in
+      let out = a .1 .1 .1 .1 .1 .1 .0 .now in
+      let s = state b marks (storageOf value text ends entries undo) in
       let k = finishOf out in
       let vss = vssOf (Rs κs) (ways κs) a in
       spelled 𝓤 H A self.signature (self.spec 𝓤 H A mem run) (WpFn 𝓤 H (𝓣 .C) (𝓣 .Λ) code.function) y (LL.vals B.the-type B′.the-laws, spellsOf (Rs κs) (ways κs)) (LL.tells B.the-type B′.the-laws, tellsOf (Rs κs) (ways κs))
-      (λ are. lent-meets finishCalled 𝓤 H A W 𝓣 #callee b (emp 𝓤) 5 (others (self.signature .params)) (self.ended .kept .1) κs qs (ways κs) a (are .1)
-      (λ r ws. Finishes r (storageOf value text ends entries) (ws .1 .1 .1 .1 .0) (step s k)) (λ c w ws. FinishesThin c w (storageOf value text ends entries) (ws .1 .1 .1 .1 .0) s k) (λ c w ws. thin-finishes c w (storageOf value text ends entries) (ws .1 .1 .1 .1 .0) s k)
+      (λ are. lent-meets finishCalled 𝓤 H A W 𝓣 #callee b (emp 𝓤) 7 (others (self.signature .params)) (self.ended .kept .1) κs qs (ways κs) a (are .1)
+      (λ r ws. Finishes r marks (storageOf value text ends entries undo) (ws .1 .1 .1 .1 .1 .1 .0) (step s k)) (λ c w ws. FinishesThin c w marks (storageOf value text ends entries undo) (ws .1 .1 .1 .1 .1 .1 .0) s k) (λ c w ws. thin-finishes c w marks (storageOf value text ends entries undo) (ws .1 .1 .1 .1 .1 .1 .0) s k)
       (λ α l γ. known (((α ∷ [], κs), (fullShare, qs), tt, (record { ptr = (l, 0); name = γ; now = b }, a), (vptr l 0 ∷ [], vss)), tt)))
 
 pub finish-lent-spec : {M : Type 1} → stated.statement M

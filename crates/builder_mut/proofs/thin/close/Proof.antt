@@ -14,16 +14,17 @@ use types.Kit.{Given}
 use denote.RattleType.{RattleType}
 use denote.Builtin.{u8, usize}
 use denote.Signature.{typesAt}
+use denote.Array.{Array}
 use denote.Ref.{ptr-vals, mut-tells}
 use denote.Triple.Spec.{Meets, tripleOf}
 use denote.Triple.Statement.{Triple}
 use denote.Triple.Table.{entered, cited}
-use Rattle.semantics.specs.Record.{close as closeOf, storageOf}
+use Rattle.semantics.specs.Record.{close as closeOf, storageOf, tableSize}
 use Rattle.semantics.specs.Step.{step}
 use Rattle.builder.specs.Calls.{Does, state}
 use Rattle.builder_mut.specs.Calls.{DoesThin}
 use Rattle.semantics.proofs.Builder as B
-use Rattle.builder_mut.proofs.Lent.{Ways, lent-slice, shr-slice, spellsOf, tellsOf, vssOf}
+use Rattle.builder_mut.proofs.Lent.{Ways, lent-slice, shr-ref, shr-slice, spellsOf, tellsOf, vssOf}
 use Rattle.builder_mut.proofs.ThinLaws.{bv, called, does-thin, others, spelled, thin-meets}
 use Rattle.builder.proofs.close as callee
 use Rattle.builder.proofs.close.Symbol as callee-def
@@ -36,11 +37,11 @@ use Rattle.builder_mut.proofs.thin.close.Code as code
 
 module _ {M : Type 1} (𝓤 : URA M) (H : Heap 𝓤) (A : Atoms 𝓤) (W : Given 𝓤 H A) (mem : Memory → SProp 𝓤) (run : Routine → Fun 𝓤) (𝓣 : Tables 𝓤 H) where
   -- the types of the parameters but for the record, and how each is passed on
-  abbrev Rs : Lfts 5 → List RattleType
+  abbrev Rs : Lfts 7 → List RattleType
   Rs κs = typesAt (others (self.signature .params)) κs
 
-  abbrev ways : (κs : Lfts 5) → Ways (Rs κs)
-  ways κs = (lent-slice (lft 1) (κs .1 .0) u8, (shr-slice 𝓤 H A W (lft 2) (κs .1 .1 .0) u8, (shr-slice 𝓤 H A W (lft 3) (κs .1 .1 .1 .0) usize, (lent-slice (lft 4) (κs .1 .1 .1 .1 .0) usize, tt))))
+  abbrev ways : (κs : Lfts 7) → Ways (Rs κs)
+  ways κs = (shr-ref 𝓤 H A W (lft 1) (κs .1 .0) (Array usize tableSize), (lent-slice (lft 2) (κs .1 .1 .0) u8, (shr-slice 𝓤 H A W (lft 3) (κs .1 .1 .1 .0) u8, (shr-slice 𝓤 H A W (lft 4) (κs .1 .1 .1 .1 .0) usize, (lent-slice (lft 5) (κs .1 .1 .1 .1 .1 .0) usize, (shr-slice 𝓤 H A W (lft 6) (κs .1 .1 .1 .1 .1 .1 .0) usize, tt))))))
 
   meets : Triple 𝓤 (𝓣 .C #callee) (tripleOf 𝓤 H A callee.signature (callee.spec 𝓤 H A mem run)) → Meets 𝓤 H A self.signature (WpFn 𝓤 H (𝓣 .C) (𝓣 .Λ) code.function) (self.spec 𝓤 H A mem run)
   meets known y =
@@ -48,16 +49,18 @@ module _ {M : Type 1} (𝓤 : URA M) (H : Heap 𝓤) (A : Atoms 𝓤) (W : Given
       let qs = y .0 .1 in
       let b = y .0 .3 .0 in
       let a = y .0 .3 .1 in
-      let value = a .0 .now in
-      let text = a .1 .0 .now in
-      let ends = a .1 .1 .0 .now in
-      let entries = a .1 .1 .1 .0 .now in
-      let s = state (b .now) (storageOf value text ends entries) in
+      let marks = a .0 .now in
+      let value = a .1 .0 .now in
+      let text = a .1 .1 .0 .now in
+      let ends = a .1 .1 .1 .0 .now in
+      let entries = a .1 .1 .1 .1 .0 .now in
+      let undo = a .1 .1 .1 .1 .1 .0 .now in
+      let s = state (b .now) marks (storageOf value text ends entries undo) in
       let k = closeOf in
       let vss = vssOf (Rs κs) (ways κs) a in
       spelled 𝓤 H A self.signature (self.spec 𝓤 H A mem run) (WpFn 𝓤 H (𝓣 .C) (𝓣 .Λ) code.function) y (ptr-vals, spellsOf (Rs κs) (ways κs)) (mut-tells (lft 0) (κs .0) B.the-row, tellsOf (Rs κs) (ways κs))
-      (λ are. thin-meets called 𝓤 H A W 𝓣 #callee (κs .0) (qs .0) b (Rs κs) (ways κs) a (are .1) (emp 𝓤) 4 (others (callee.signature .params)) (callee.ended .kept .1) (κs .1) (qs .1) a vss
-      (λ r ws. Does r (storageOf (ws .0) text ends (ws .1 .1 .1 .0)) (step s k)) (λ c w ws. DoesThin c w (storageOf (ws .0) text ends (ws .1 .1 .1 .0)) s k) (λ r ws. does-thin r (storageOf (ws .0) text ends (ws .1 .1 .1 .0)) s k)
+      (λ are. thin-meets called 𝓤 H A W 𝓣 #callee (κs .0) (qs .0) b (Rs κs) (ways κs) a (are .1) (emp 𝓤) 6 (others (callee.signature .params)) (callee.ended .kept .1) (κs .1) (qs .1) a vss
+      (λ r ws. Does r marks (storageOf (ws .1 .0) text ends (ws .1 .1 .1 .1 .0) undo) (step s k)) (λ c w ws. DoesThin c w marks (storageOf (ws .1 .0) text ends (ws .1 .1 .1 .1 .0) undo) s k) (λ r ws. does-thin r marks (storageOf (ws .1 .0) text ends (ws .1 .1 .1 .1 .0) undo) s k)
       (known ((κs .1, qs .1, tt, (b .now, a), (bv (b .now) ∷ [], vss)), tt)))
 
 pub close-spec : {M : Type 1} → stated.statement M

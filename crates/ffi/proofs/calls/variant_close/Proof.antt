@@ -1,4 +1,3 @@
-use mathlib.Core.Path.{refl}
 use Rattle.semantics.specs.Record.{close, storageOf}
 use Rattle.ffi.proofs.CallLaws.{does-moved}
 use borrow.Author.Needs.{needs}
@@ -9,8 +8,8 @@ returns : tie.Need-returns
 returns c =
     let r = c .before .before .before .before .before .before in
     let v = r .before .before .before in
-    let a = v .before .before .before .before .before .before .args in
-    does-moved (a .words .now) (storageOf (a .value .now) (a .text .now) (a .ends .now) (a .entries .now)) close refl tt (λ b. refl) (v .view-of .ensures) (r .close-over .ensures) (c .moved .ensures)
+    let a = v .before .before .before .before .before .before .before .args in
+    does-moved (a .words .now) (a .marks .now) (storageOf (a .value .now) (a .text .now) (a .ends .now) (a .entries .now) (a .undo .now)) close tt (v .view-of .ensures) (r .close-over .ensures) (c .moved .ensures)
 
 pub variant-close-spec : {M : Type 1} → statement M
 variant-close-spec =

@@ -17,8 +17,11 @@ returns c =
 returns-2 : tie.Need-returns-2
 unfolding containerFrom
 returns-2 c =
-    let a = c .before .before .before .before .before .before .before .before .before .before .before .before .before .args in
-    rw (c .before .before .before .before .before .before .before .before .parent-entry .ensures, c .before .before .flag .ensures, c .flag2 .ensures) (container-at (a .words .now) (a .d) (omega arith))
+    let f = c .before .before in
+    let e = f .before .before .before .before .before .before .before .before in
+    let p = e .before .before .before .before in
+    let a = p .before .before .args in
+    rw (e .parent-entry .ensures, f .before .before .flag .ensures, f .flag2 .ensures, p .place-of .ensures) (container-at (a .words .now) (a .d) (omega arith))
 
 pub container-at-spec : {M : Type 1} → statement M
 container-at-spec =
@@ -26,8 +29,7 @@ container-at-spec =
     (tie.spec
     (λ c κs. search needs)
     returns
-    (λ c. search needs)
-    (λ c. search needs)
+    (λ c κs. search needs)
     (λ c. search needs)
     (λ c. search needs)
     (λ c. search needs)
@@ -57,4 +59,10 @@ container-at-spec =
     (λ c. search needs)
     (λ c. search needs)
     (λ c κs. search needs)
+    (λ c. search needs)
+    (λ c. search needs)
+    (λ c. search needs)
+    (λ c. search needs)
+    (λ c. search needs)
+    (λ c. search needs)
     returns-2)

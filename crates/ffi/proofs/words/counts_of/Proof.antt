@@ -6,7 +6,7 @@ use Rattle.ffi.proofs.words.counts_of.Tie as tie
 returns : tie.Need-returns
 unfolding countsOf
 returns c =
-    let f = c .before in
+    let f = c .before .before in
     let m = f .before .before .before .before .before .before .before in
     rw (m .from-parts .ensures, f .before .before .flag .ensures, f .flag2 .ensures)
 
@@ -24,5 +24,6 @@ counts-of-spec =
     (λ c κs. search needs)
     (λ c. search needs)
     (λ c κs. search needs)
+    (λ c. search needs)
     (λ c. search needs)
     returns)

@@ -13,22 +13,19 @@ returns : tie.Need-returns
 unfolding containerFrom
 returns c =
     let u = c .before .before in
-    let n = u .before in
-    let d = n .before in
-    let e = d .before .before .before in
-    let s = e .before in
+    let e = u .before .before .before .before .before in
+    let q = e .before in
+    let s = q .before .before in
     let a = s .args in
-    rw (c .flag .ensures, u .under .ensures, n .saturating-sub2 .ensures, d .saturating-sub .ensures, e .elements-at .ensures, one-above, ← container-at (a .words .now) (a .i - 1) (omega arith), ← container-at (a .words .now) (a .i) (s .pre .1)) refl
+    rw (c .flag .ensures, u .under .ensures, u .before .saturating-sub2 .ensures, u .before .before .saturating-sub .ensures, e .elements-at .ensures, q .place-of2 .ensures, q .before .place-of .ensures, one-above, ← container-at (a .words .now) (a .i - 1) (omega arith), ← container-at (a .words .now) (a .i) (s .pre .1)) refl
 
 pub encloses-spec : {M : Type 1} → statement M
 encloses-spec =
     tie.close
     (tie.spec
     (λ c. search needs)
-    (λ c. search needs)
-    (λ c. search needs)
-    (λ c. search needs)
-    (λ c. search needs)
+    (λ c κs. search needs)
+    (λ c κs. search needs)
     (λ c. search needs)
     (λ c κs. search needs)
     (λ c. search needs)
@@ -37,7 +34,7 @@ encloses-spec =
     (λ c. search needs)
     (λ c κs. search needs)
     (λ c κs. search needs)
-    (λ c κs. c .before .before .before .before .before .pre)
+    (λ c κs. search needs)
     (λ c. search needs)
     (λ c. search needs)
     (λ c. search needs)

@@ -17,7 +17,7 @@ returns-2 c =
     let f = z .before in
     let t = f .before in
     let i = t .before .before .before .before in
-    sees-named _ _ (i .if1 .left) (i .before .before .before .before .before .before .pre) (t .look-up .ensures) (z .saturating-sub .ensures) (rw (f .num-field-names .ensures) at (s .search-entries .ensures))
+    sees-named _ _ (i .if1 .left) (i .before .before .before .before .before .before .before .pre) (t .look-up .ensures) (z .saturating-sub .ensures) (rw (f .num-field-names .ensures) at (s .search-entries .ensures))
     (o .is-open .ensures) (j .in-object .ensures) (k .kept .ensures) (c .one-if .ensures)
 
 pub field-of-spec : {M : Type 1} → statement M

@@ -16,11 +16,11 @@ returns-2 c =
     let j = w .before .before in
     let s = j .before in
     let b = s .before .before .before .before .before .before in
-    let a = b .before .before .before .before .before .before .args in
+    let a = b .before .before .before .before .before .before .before .args in
     let e = rw (b .before .broken .ensures) at (b .if1 .left) in
     let q = rw (s .before .saturating-sub .ensures, s .before .before .num-field-names .ensures) at (s .search-entries .ensures) in
     closes-by _ _ (s .search-entries .result) e q
-    (rw (c .row3 .ensures, c .before .row2 .ensures, c .before .before .row .ensures, o .is-open .ensures, i .intact .ensures, w .late-uncounted .ensures (a .text .now) (a .ends .now) (a .entries .now), j .in-object .ensures)
+    (rw (c .row3 .ensures, c .before .row2 .ensures, c .before .before .row .ensures, o .is-open .ensures, i .intact .ensures, w .late-uncounted .ensures (a .text .now) (a .ends .now) (a .entries .now) (a .undo .now), j .in-object .ensures)
     (close-rows _ _ (s .search-entries .result) e q))
 
 pub close-number-spec : {M : Type 1} → statement M

@@ -17,8 +17,8 @@ returns-2 c =
     let n = c .before in
     let s = n .before .before .before in
     let b = s .before .before in
-    let a = b .before .before .before .before .before .before .args in
-    enter-decides (a .v) (storageOf (a .value .now) (a .text .now) (a .ends .now) (a .entries .now)) (a .named) (a .name .now)
+    let a = b .before .before .before .before .before .before .before .args in
+    enter-decides (a .v) (storageOf (a .value .now) (a .text .now) (a .ends .now) (a .entries .now) (a .undo .now)) (a .named) (a .name .now)
     (sym (b .broken .ensures) ∙ s .before .if1 .left) (s .field-of .ensures) (a .opens) (a .own) (a .size) (n .before .fits2 .ensures) (n .enter-rows .ensures) (c .decided2 .ensures)
 
 pub enter-number-spec : {M : Type 1} → statement M

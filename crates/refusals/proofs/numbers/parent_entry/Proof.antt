@@ -5,14 +5,14 @@ use Rattle.refusals.proofs.numbers.parent_entry.Statement.{statement}
 use Rattle.refusals.proofs.numbers.parent_entry.Tie as tie
 
 returns : tie.Need-returns
-returns c value text ends =
+returns c value text ends undo =
     let s = c .before .before .before .before .before .before in
     let z = s .before .before .before in
     parent-new _ _ (z .before .before .before .before .before .before .pre) _ (s .before .enum-told .given .1) (rw (z .saturating-sub .ensures, z .before .num-field-names .ensures) at (s .search-entries .ensures))
 
 returns-2 : tie.Need-returns-2
-returns-2 c value text ends =
-    let s = c .before .before .before .before in
+returns-2 c value text ends undo =
+    let s = c .before .before .before .before .before .before .before in
     let e = s .before .before in
     let z = e .before .before in
     rw (z .saturating-sub .ensures)

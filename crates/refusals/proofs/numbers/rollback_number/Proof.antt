@@ -21,7 +21,7 @@ returns-2 c =
     let o = n .before .before .before in
     let p = o .before .before in
     let b = p .before .before in
-    undoes-place _ _ _ (n .row3 .result) (rw (b .before .broken .ensures) at (b .if1 .left)) (p .parent-entry .ensures _ _ _)
+    undoes-place _ _ _ (n .row3 .result) (rw (b .before .broken .ensures) at (b .if1 .left)) (p .parent-entry .ensures _ _ _ _)
     (rw (n .row3 .ensures, n .before .row2 .ensures, n .before .before .row .ensures, o .is-open .ensures)) (c .if2 .taken)
 
 returns-3 : tie.Need-returns-3
@@ -30,7 +30,7 @@ returns-3 c =
     let o = n .before .before .before in
     let p = o .before .before in
     let b = p .before .before in
-    undoes-none _ _ _ (n .row3 .result) (rw (b .before .broken .ensures) at (b .if1 .left)) (p .parent-entry .ensures _ _ _)
+    undoes-none _ _ _ (n .row3 .result) (rw (b .before .broken .ensures) at (b .if1 .left)) (p .parent-entry .ensures _ _ _ _)
     (rw (n .row3 .ensures, n .before .row2 .ensures, n .before .before .row .ensures, o .is-open .ensures)) (c .if2 .left)
 
 pub rollback-number-spec : {M : Type 1} → statement M

@@ -8,7 +8,7 @@ returns : tie.Need-returns
 unfolding overUsed unchained badFloor
 returns c =
     let g = c .before .before in
-    rw (c .good-floor .ensures, g .grown .ensures, g .before .before .exceeds .ensures, g .before .before .before .before .counted .ensures)
+    rw (c .good-floor .ensures, g .grown .ensures, g .before .exceeds .ensures, g .before .before .before .counted .ensures)
 
 pub broken-spec : {M : Type 1} → statement M
 broken-spec = tie.close (tie.spec (λ c κs. search needs) (λ c κs. search needs) (λ c κs. search needs) (λ c κs. search needs) returns)

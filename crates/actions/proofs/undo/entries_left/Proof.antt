@@ -1,8 +1,8 @@
 use borrow.Author.Needs.{needs}
 use borrow.Author.Tests.{not-true, not-false}
 use mathlib.Core.Path.{refl}
-use Rattle.actions.proofs.undo.undo.Statement.{statement}
-use Rattle.actions.proofs.undo.undo.Tie as tie
+use Rattle.actions.proofs.undo.entries_left.Statement.{statement}
+use Rattle.actions.proofs.undo.entries_left.Tie as tie
 
 returns : tie.Need-returns
 returns c = rw (not-true (c .before .before .args .below) (c .if1 .taken)) (refl, refl)
@@ -16,8 +16,8 @@ returns-3 c =
     let i = p .before .before in
     rw (not-false (i .before .before .args .below) (i .if1 .left), p .parent .given .1) (refl, c .before .before .replace-offset .ensures .1)
 
-pub undo-spec : {M : Type 1} → statement M
-undo-spec =
+pub entries-left-spec : {M : Type 1} → statement M
+entries-left-spec =
     tie.close
     (tie.spec
     returns

@@ -157,7 +157,7 @@ class Counts:
         self.runs, self.finished, self.model, self.oracle = (collections.Counter() for _ in range(4))
         self.left_out, self.finished_oracle, self.verbs, self.answers = (collections.Counter() for _ in range(4))
         self.inner_names = self.inner_runs = self.not_made = self.without = 0
-        self.floors, self.beside, self.forms = (collections.Counter() for _ in range(3))
+        self.floors, self.beside, self.forms, self.reading, self.read_back = (collections.Counter() for _ in range(5))
         self.sorted, self.lists, self.returns = collections.Counter(on=0, off=0, ignored=0), collections.Counter(), collections.Counter()
 
     def note(self, run, places):
@@ -167,9 +167,10 @@ class Counts:
         self.inner_runs += run.inner_names > 0
         self.lists += run.lists
         self.returns += run.returns
-        for call, answer in zip(run.calls, run.answers):
+        for call, answer, before in zip(run.calls, run.answers, ["", *run.answers]):
             if call[0] in scripts.BESIDE:
                 self.beside[call[0]] += 1
+                self.note_reading(call, answer, before if kind != "altered" else "")
             elif answer == "new":
                 self.floors[call[1].get("floor", 1)] += 1
             elif call[0] == "new":
@@ -189,6 +190,13 @@ class Counts:
             self.oracle[kind] += len(places) - 1
             self.finished_oracle[kind] += any(run.answers[i].startswith("ok value") for i in places)
             self.note_sorted([run.calls[i] for i in places], [run.answers[i] for i in places])
+
+    def note_reading(self, call, answer, before):
+        """What a call told that reads a record; and apart, of one that reads what was finished just before."""
+        if call[0] in scripts.READING:
+            self.reading[f"{call[0]} {answer if answer.startswith('refused') else answer.split()[0]}"] += 1
+        if before.startswith("ok value=") and before == " ".join(["ok", *call[1:]]):
+            self.read_back[answer] += 1
 
     def note_sorted(self, calls, answers):
         """How the sorted mark of a finished run was held against the Rust."""
@@ -217,6 +225,8 @@ class Counts:
         r = self.returns
         print(f"marks set: {r['set']}, {r['in lists']} in lists, {r['sixteenth']} as the sixteenth; returned to {r['returned']}, {r['with records']} with "
               f"undo records, {r['with offsets']} with offsets brought back; roll backs that free a child's record: {r['with a child']}")
+        print("records: " + (", ".join(f"{what} {n}" for what, n in sorted(self.reading.items())) or "none")
+              + "; what was finished, read: " + (", ".join(f"{what} {n}" for what, n in sorted(self.read_back.items())) or "none"))
         print(f"names registered with containers open: {self.inner_names}, in {self.inner_runs} runs")
         print(f"sorted mark of runs finished in both: compared on {self.sorted['on']}, compared off {self.sorted['off']}, "
               f"ignored after a roll back {self.sorted['ignored']}")
@@ -277,8 +287,9 @@ def compare(model, args):
         if faults >= SHOWN:
             break
     counts.show()
-    print(f"seed {args.seed}: {faults} runs that differ")
-    return 1 if faults else 0
+    unread = counts.read_back.total() - counts.read_back["ok"]
+    print(f"seed {args.seed}: {faults} runs that differ" + f", {unread} finished records refused" * (unread > 0))
+    return 1 if faults or unread else 0
 
 
 # ---------------------------------------------------------------- the sample
@@ -300,7 +311,7 @@ def short_run(model, run, exact):
 
 def sample(model, args, per_kind=46):
     kept = []
-    for kind in [kind for kind in scripts.MAKERS if kind not in ("widths", "lists", "marks", "altered")]:
+    for kind in [kind for kind in scripts.MAKERS if kind not in ("widths", "lists", "marks", "records", "altered")]:
         number = found = 0
         while found < per_kind:
             lines = short_run(model, scripts.make(model, args.seed, kind, number, short=True), number % 2 == 0)

@@ -6,6 +6,8 @@ Every run comes from its own seed: the same seed, kind and number give the same 
 import collections
 import random
 
+import layouts
+
 OBJECTS = ("list", "object")
 EDGE_CHARS = [b"\x00", b"\x7f", b"\xc2\x80", b"\xdf\xbf", b"\xe0\xa0\x80", b"\xed\x9f\xbf", b"\xee\x80\x80",
               b"\xef\xbf\xbf", b"\xf0\x90\x80\x80", b"\xf3\xbf\xbf\xbf", b"\xf4\x8f\xbf\xbf"]
@@ -26,7 +28,9 @@ FLOORS = (1, 1, 1, 1, 1, 1, 1, 2, 3, 4)
 BAD_FLOORS = (0, 5, 6, 256, 2**32 + 1, 2**64 - 1)
 CIVIL = ("ymd", "ymdts", "ymdtsntz")
 BESIDE = {"days": "A2", "civil": "A2", "packdec": "A4", "readdec": "A4",      # the calls that need no builder
-          "batchstart": "A7", "batchadd": "A7", "batchread": "A7"}
+          "batchstart": "A7", "batchadd": "A7", "batchread": "A7", "read": "A6", "field": "A6", "firstint": "A6"}
+READING = tuple(verb for verb, request in BESIDE.items() if request == "A6")
+LEAVES = (*KINDS, *("int8", "int16", "int32", "int64") * 3)
 YEARS = (1, 2, 3, 4, 5, 100, 400, 1582, 1600, 1899, 1900, 1969, 1970, 1972, 2000, 2023, 2024, 2100, 9996, 9998, 9999)
 SPAN = (-719_162, 2_932_896)          # the days of the years 1 to 9999
 OUTSIDE = ((0, 10_000, -1), (0, 13, -1), (0, 29, 30, 31, 32, -1), (DAY, -1))     # of a year, a month, a day and a time
@@ -219,10 +223,10 @@ class Run:
     `wrong` is the chance of a misplaced or ill-formed call; in a `held` run the accepted scalars are
     those that the Rust's types hold. Under A1 names are registered with containers open in an `inside` run, and in
     no other, since the Rust has no such call. Under A2 there are dates among the scalars, under A4 packed decimal, and
-    between the calls those that need no builder (A2, A4, A7). Under A10 a run has a floor, mostly 1; `made` is the place
-    of the `new` that makes its builder, before which one is now and then refused. Under A8 `lists` counts the closes that walk a
-    list's data. Under A9 marks are set and returned to in a `marked` run, which says how often, and in no other, since the Rust has
-    no such calls; `returns` counts what came of them."""
+    between the calls those that need no builder (A2, A4, A7, A6); under A6 what a finish yields is read, too. Under A10 a run has a
+    floor, mostly 1; `made` is the place of the `new` that makes its builder, before which one is now and then refused. Under A8 `lists`
+    counts the closes that walk a list's data. Under A9 marks are set and returned to in a `marked` run, which says how often, and in no
+    other, since the Rust has no such calls; `returns` counts what came of them."""
 
     def __init__(self, model, rng, held, pool=None, wrong=0.02, unique=None, inside=False, marked=None, floor=None, **settings):
         self.model, self.rng, self.held, self.wrong = model, rng, held, wrong
@@ -352,13 +356,36 @@ class Run:
         return self.say(("return", early if n and self.chance(0.93) else self.rng.choice((0, n, n + 1, 16, 17, 2**64 - 1))))
 
     def finish(self, out=4096):
-        return self.say(("finish", out))
+        answer = self.say(("finish", out))
+        if "A6" in self.model.on and answer.startswith("ok value"):
+            self.say(("read", *answer.split()[1:]))
+        return answer
 
     def beside(self):
         """Now and then a call that needs no builder; else None."""
         if not self.asked or not self.chance(0.04):
             return None
-        return self.say(without_builder(self.rng, self.rng.choice(self.asked), self.chance(0.3)))
+        verb, bad = self.rng.choice(self.asked), self.chance(0.3)
+        return self.read(verb, bad) if verb in READING else self.say(without_builder(self.rng, verb, bad))
+
+    def read(self, verb, bad):
+        """A call on a record laid out anyhow, or on what a finish yielded; a bad one is mostly none."""
+        last = next((answer for answer in reversed(self.answers) if answer.startswith("ok value")), None)
+        if last and len(last) < 9000 and self.chance(0.3):
+            value, dictionary = (bytes.fromhex(word.split("=")[1]) for word in last.split()[1:])
+            value, names = layouts.altered(self.rng, value) if bad else value, self.pool
+        else:
+            dictionary, value, names = layouts.pair(self.rng, lambda: self.leaf(bad), self.pool, bad)
+        name = self.rng.choice([*names, *names, self.rng.choice(MIXED), self.rng.choice(BAD_TEXTS)])
+        return self.say(layouts.call(self.rng, verb, dictionary, value, name))
+
+    def leaf(self, bad):
+        """A scalar's bytes; now and then those of one that is refused."""
+        while True:
+            scalar = any_scalar(self.rng, bad and self.chance(0.1), LEAVES)
+            refused = self.model.scalar_refusal(scalar)
+            if not refused or bad and self.chance(0.1) and scalar[0] != "short":
+                return self.model.scalar_bytes(scalar)
 
     def step(self, weights=(9, 4, 3, 2, 1)):
         """Mostly a call that fits the state."""
@@ -518,8 +545,8 @@ def tightened(new, other):
     sizes = {key: max(n, 0) for key, n in sizes.items()}
     out = sizes.pop("out")
     run = new(unique=settings["unique"], floor=settings.get("floor"), marked=other.marked, **sizes)
-    for call in other.calls[other.made + 1:]:
-        run.say(("finish", out) if call[0] == "finish" else call)
+    for call in [call for call in other.calls[other.made + 1:] if call[0] not in READING]:
+        run.finish(out) if call[0] == "finish" else run.say(call)
     if run.answers[-1] == "refused 16":
         run.finish(other.peak["out"])
     return run
@@ -652,6 +679,19 @@ def marks(new, number, short):
         return replaced(new, number, short)
     run = (sixteen_marks if number % 12 == 2 else marked_deep if number % 12 == 8 else (marked_fields, few_records, marked_lists)[number % 3])(new)
     return tightened(new, run) if run.chance(0.2) else run
+
+
+# ---------------------------------------------------------------- records
+
+def records(new, number, short):
+    """Records read, right and wrong ones; what the run yields among them."""
+    run = new(pool=new.rng.choice((MIXED, MIXED[:4], [b"", b"a"])))
+    for _ in range(run.rng.randrange(1, 12)):
+        run.step()
+    run.wind_up()
+    for _ in range(20 if "A6" in new.model.on else 0):
+        run.read(run.rng.choice(READING), run.chance(0.5))
+    return run
 
 
 # ---------------------------------------------------------------- the widths' edges
@@ -1113,9 +1153,9 @@ def ended(run):
     return run
 
 
-MAKERS = {f.__name__: f for f in (plain, deep, rollbacks, replaced, refusals, small, wide, widths, lists, marks, altered)}
+MAKERS = {f.__name__: f for f in (plain, deep, rollbacks, replaced, refusals, small, wide, widths, lists, marks, records, altered)}
 SHARES = {"plain": 20, "deep": 15, "rollbacks": 17, "replaced": 15, "refusals": 12, "small": 15, "wide": 3, "widths": 5, "lists": 5, "marks": 8,
-          "altered": 8}
+          "records": 8, "altered": 8}
 
 
 class Maker:

@@ -5,10 +5,10 @@
 
 WRITER is variant-script; the model is tools/model, or that of another FOLDER, and answers by the requests of document 02
 in SET, else by those that have landed (landed.py). A run is one random script: signs, underscores and leading zeros in
-numbers, `0x`, capitals, COUNTxHEX, tabs, comments, line ends of three kinds, dates, packed decimal, batch files, marks, pokes of all fields, now and
-then another `new`, one that is refused, and a line that is no call. Numbers of `new`, `finish` and pokes are those of the grammar, 0 to
-2^64 - 1. Every answer must be the model's; where the model cannot take a line, WRITER must stop there with status 2 and say
-which line it is.
+numbers, `0x`, capitals, COUNTxHEX, tabs, comments, line ends of three kinds, dates, packed decimal, batch files, records, marks,
+pokes of all fields, now and then another `new`, one that is refused, and a line that is no call. Numbers of `new`, `finish` and
+pokes are those of the grammar, 0 to 2^64 - 1. Every answer must be the model's; where the model cannot take a line, WRITER must stop
+there with status 2 and say which line it is.
 """
 import argparse
 import os
@@ -28,6 +28,8 @@ NO_RETURNS = ("return", "return +1", "return 1_0", "return -1", "return x", "ret
 
 FLOORS = ("1", "2", "3", "4", "+2", "03", "0_4", "1")
 BAD_FLOORS = ("0", "5", "+0", "00_5", str(2**64 - 1))
+PARTS = ("010000", "1x110000", "0101000161", "11020001026162", "00", "0C05", "1x030000", "0301000100", "02010000020c05",
+         "1x0201000003100500", "3x00")
 FILES = ("01", "1x01", "02", "70x01", "0100", "010000000400000000", "0100000006000000010A0b", "010000000300000000000000", "01fFffffff00")
 
 
@@ -96,14 +98,20 @@ def scalar(rng, model, script):
 
 
 def setting(rng, key):
-    return f"{key}=" + (size(rng) if key == "out" else rng.choice([*FILES, some_bytes(rng)]) if key == "file" else some_bytes(rng))
+    known = {"file": FILES, "value": PARTS, "dict": PARTS}.get(key, ["61"])
+    return f"{key}=" + (size(rng) if key == "out" else rng.choice([*known, some_bytes(rng)]))
 
 
-def batch(rng):
-    """A call on a batch file: settings in any order, left out and given again."""
-    verb, keys = rng.choice([("batchstart", ["out"]), ("batchadd", ["file", "dict", "value", "out"]), ("batchread", ["file"])])
-    given = rng.sample(keys, rng.randint(0, len(keys))) + rng.choices(keys, k=int(rng.random() < 0.2))
-    return " ".join([verb, *(setting(rng, key) for key in given), *seldom(rng, [["size=1"], ["="], ["file"], ["out=x"]], [[]])])
+BATCH = (("batchstart", ["out"]), ("batchadd", ["file", "dict", "value", "out"]), ("batchread", ["file"]))
+READING = (("read", ["value", "dict"]), ("field", ["name", "value", "dict"]), ("firstint", ["value", "dict"]))
+
+
+def with_settings(rng, calls):
+    """One of the calls: settings in any order, left out and given again."""
+    verb, keys = rng.choice(calls)
+    given = rng.sample(keys, rng.randint(len(keys) // 2, len(keys))) + rng.choices(keys, k=int(rng.random() < 0.2))
+    other = seldom(rng, [["size=1"], ["="], ["file"], ["value"], ["dict=x"], ["out=x"]], [[]])
+    return " ".join([verb, *(setting(rng, key) for key in given), *other])
 
 
 def beside(rng, model):
@@ -111,7 +119,8 @@ def beside(rng, model):
     dates = [" ".join(["days", *date(rng)]), "civil " + rng.choice(["-719_162", "+2932896", "2932897", whole(rng)])]
     out = rng.choice(["", " out=" + size(rng)])
     decimals = [f"packdec {scale(rng)} {whole(rng)}{out}", f"readdec {scale(rng)} {packed(rng)}"]
-    asked = dates * ("A2" in model.on) + decimals * ("A4" in model.on) + [batch(rng), batch(rng)] * ("A7" in model.on)
+    batches, records = ([with_settings(rng, calls) for _ in range(2)] for calls in (BATCH, READING))
+    asked = dates * ("A2" in model.on) + decimals * ("A4" in model.on) + batches * ("A7" in model.on) + records * ("A6" in model.on)
     return [seldom(rng, [rng.choice(asked) + " 1", rng.choice(asked).split()[0]], asked)] if asked else []
 
 

@@ -1,29 +1,35 @@
-//! Finds the archive of the proved calls (crate `ffi` of the repository), copies it into OUT_DIR and links it.
+//! Finds the archives of the proved calls (crates `ffi` and `reader_ffi` of the repository), copies them into OUT_DIR and links them.
 //!
-//! It is `libffi.a` in the folder `VARIANT_STATICLIB`, else in the repository's `target/staticlib`. Where it is missing there, or older
-//! than a source, `rt staticlib ffi` makes it: that proves the crate and all that it stands on, which takes minutes from nothing.
-//! The copy is what is linked, since `rt ci` removes the repository's `target`.
+//! They are `libffi.a` and `libreader_ffi.a` in the folder `VARIANT_STATICLIB`, else in the repository's `target/staticlib`. Where one is
+//! missing there, or older than a source, `rt staticlib` makes it: that proves its crate and all that it stands on, which takes minutes from
+//! nothing. The copies are what is linked, since `rt ci` removes the repository's `target`.
 use std::path::{Path, PathBuf};
 use std::process::{exit, Command};
 use std::time::SystemTime;
 use std::{env, fs};
 
+const CRATES: [&str; 2] = ["ffi", "reader_ffi"];
+
 fn main() {
     let here = PathBuf::from(env::var_os("CARGO_MANIFEST_DIR").expect("cargo sets CARGO_MANIFEST_DIR"));
     let root = here.ancestors().nth(2).expect("bindings/rust stands in the repository");
     println!("cargo:rerun-if-env-changed=VARIANT_STATICLIB");
-    let library = match env::var_os("VARIANT_STATICLIB") {
-        Some(folder) => PathBuf::from(folder).join("libffi.a"),
-        None => made(root),
-    };
-    println!("cargo:rerun-if-changed={}", library.display());
+    let given = env::var_os("VARIANT_STATICLIB").map(PathBuf::from);
+    let newest = if given.is_some() { None } else { sources(root) };
     let out = PathBuf::from(env::var_os("OUT_DIR").expect("cargo sets OUT_DIR"));
-    // under another name, since systems have a libffi of their own
-    if let Err(e) = fs::copy(&library, out.join("libvariant_ffi.a")) {
-        fail(&format!("{}: {e}. `rt staticlib ffi` writes it; VARIANT_STATICLIB names its folder", library.display()));
-    }
     println!("cargo:rustc-link-search=native={}", out.display());
-    println!("cargo:rustc-link-lib=static=variant_ffi");
+    for name in CRATES {
+        let library = match &given {
+            Some(folder) => folder.join(format!("lib{name}.a")),
+            None => made(root, name, newest),
+        };
+        println!("cargo:rerun-if-changed={}", library.display());
+        // under another name, since systems have a libffi of their own
+        if let Err(e) = fs::copy(&library, out.join(format!("libvariant_{name}.a"))) {
+            fail(&format!("{}: {e}. `rt staticlib {name}` writes it; VARIANT_STATICLIB names its folder", library.display()));
+        }
+        println!("cargo:rustc-link-lib=static=variant_{name}");
+    }
 }
 
 fn fail(message: &str) -> ! {
@@ -31,16 +37,15 @@ fn fail(message: &str) -> ! {
     exit(1)
 }
 
-/// The repository's archive, made where it is missing or older than a source.
-fn made(root: &Path) -> PathBuf {
-    let library = root.join("target/staticlib/libffi.a");
-    let newest = sources(root);
+/// The repository's archive of a crate, made where it is missing or older than the newest source.
+fn made(root: &Path, name: &str, newest: Option<SystemTime>) -> PathBuf {
+    let library = root.join(format!("target/staticlib/lib{name}.a"));
     if changed(&library).is_some() && changed(&library) >= newest {
         return library;
     }
-    match Command::new("rt").args(["staticlib", "ffi"]).current_dir(root).output() {
+    match Command::new("rt").args(["staticlib", name]).current_dir(root).output() {
         Ok(o) if o.status.success() => library,
-        Ok(o) => fail(&format!("`rt staticlib ffi` failed:\n{}{}", text(&o.stdout), text(&o.stderr))),
+        Ok(o) => fail(&format!("`rt staticlib {name}` failed:\n{}{}", text(&o.stdout), text(&o.stderr))),
         Err(e) => fail(&format!(
             "{} is missing or older than a source, and `rt` (the Rattle kit), which makes it, cannot be run: {e}",
             library.display()

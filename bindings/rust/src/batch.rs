@@ -1,6 +1,7 @@
-//! Batch files: a version byte, then records one behind the other, each a dictionary and a value. What these hold is not judged.
+//! Batch files: a version byte, then records one behind the other, each a dictionary and a value. What these hold is not judged
+//! until a record is read.
 use crate::builder::answer;
-use crate::{sys, Refusal};
+use crate::{sys, Record, Refusal};
 use std::iter::FusedIterator;
 
 /// An empty batch at the start of lent bytes; how many of them are used, 1. No bytes are refused with 14.
@@ -111,6 +112,24 @@ impl Default for BatchWriter {
 pub struct BatchRecord<'a> {
     pub dictionary: &'a [u8],
     pub value: &'a [u8],
+}
+
+impl<'a> BatchRecord<'a> {
+    /// Judges what it holds, as `Record::read` does.
+    ///
+    /// ```
+    /// use variant_writer::{BatchReader, BatchWriter};
+    ///
+    /// let mut batch = BatchWriter::new();
+    /// batch.add(&[1, 1, 0, 1, b'a'], &[2, 1, 0, 0, 2, 12, 5])?;
+    /// for record in BatchReader::new(batch.as_bytes())? {
+    ///     assert_eq!(record?.read()?.first_integer(), Some((0, 5)));
+    /// }
+    /// # Ok::<(), variant_writer::Refusal>(())
+    /// ```
+    pub fn read(&self) -> Result<Record<'a>, Refusal> {
+        Record::read(self.dictionary, self.value)
+    }
 }
 
 /// The records of a batch file that are wholly present, in order. A record with a count below four, or with a dictionary length that does not

@@ -1,7 +1,7 @@
-//! Variant values of Apache Parquet, written by proved code: safe Rust calls over the crate `ffi` of this repository.
+//! Variant values of Apache Parquet, written and read by proved code: safe Rust calls over the crates `ffi` and `reader_ffi` of this repository.
 //!
 //! ```
-//! use variant_writer::{Variant, VariantBuilder};
+//! use variant_writer::{Record, Variant, VariantBuilder};
 //!
 //! let mut builder = VariantBuilder::new();
 //! builder.new_object(None)?;
@@ -12,16 +12,20 @@
 //! let n = builder.finish(&mut dictionary)?;
 //! assert_eq!(builder.value(), [2, 2, 1, 0, 2, 0, 4, 12, 1, 12, 2]);
 //! assert_eq!(dictionary[..n], [1, 2, 0, 1, 2, b'b', b'a']);
+//!
+//! let record = Record::read(&dictionary[..n], builder.value())?;
+//! assert_eq!(record.field(b"a").map(|a| a.value()), Some(&[12, 2][..]));
 //! # Ok::<(), variant_writer::Refusal>(())
 //! ```
 //!
-//! docs/FORMAT.md of the repository says what the bytes and the calls are. Proved is what the linked calls do (`crates/ffi`); this
-//! crate only hands slices to them, and `listing` is for people to read.
+//! docs/FORMAT.md of the repository says what the bytes and the calls are. Proved is what the linked calls do (`crates/ffi`,
+//! `crates/reader_ffi`); this crate only hands slices to them, walks the parts of a record that they accepted, and lists it for people to read.
 mod batch;
 mod builder;
 mod date;
 mod listing;
 mod packed;
+mod record;
 mod refusal;
 pub mod sys;
 mod variant;
@@ -32,6 +36,7 @@ pub use builder::{Buffer, Storage, VariantBuilder};
 pub use date::{Civil, Date};
 pub use listing::listing;
 pub use packed::write_packed_decimal;
+pub use record::{find_field, find_first_integer, Record};
 pub use refusal::Refusal;
 pub use variant::Variant;
 

@@ -1,91 +1,45 @@
-//! A readable listing of a value and its dictionary, for people: a small reader of what the writer writes. Not proved.
+//! A readable listing of a value and its dictionary, for people. Not proved, but for the judging of the bytes.
+use crate::record::{LIST, OBJECT, SHORT_TEXT};
+use crate::Record;
 use std::fmt::Write;
 
-/// The dictionary's names and the value as an indented listing; `None` where the bytes are no Variant.
+/// The dictionary's names and the value as an indented listing; `None` where `Record::read` refuses them.
 pub fn listing(value: &[u8], dictionary: &[u8]) -> Option<String> {
-    let names = names(dictionary)?;
-    let mut out = format!("dictionary: {} names\n", names.len());
-    for (id, name) in names.iter().enumerate() {
-        writeln!(out, "  {id} {}", name.escape_debug()).ok()?;
+    let record = Record::read(dictionary, value).ok()?;
+    let mut out = format!("dictionary: {} names\n", record.names().len());
+    for (id, name) in record.names().enumerate() {
+        writeln!(out, "  {id} {}", escaped(name)).ok()?;
     }
     out.push_str("value: ");
-    let mut reader = Reader { names, left: value.len(), out };
-    reader.value(value, 1)?;
-    Some(reader.out)
+    list(record, 1, &mut out)?;
+    Some(out)
 }
 
-/// The names of a dictionary.
-fn names(dictionary: &[u8]) -> Option<Vec<String>> {
-    let width = usize::from(dictionary.first()? >> 6) + 1;
-    let count = number(dictionary, 1, width)?;
-    let place = |i: usize| number(dictionary, i.checked_mul(width)?.checked_add(1 + width)?, width);
-    let text = dictionary.get((count.checked_add(2)?).checked_mul(width)?.checked_add(1)?..)?;
-    (0..count).map(|i| Some(String::from_utf8_lossy(text.get(place(i)?..place(i + 1)?)?).into_owned())).collect()
-}
-
-/// The stored number of `width` bytes.
-fn number(bytes: &[u8], at: usize, width: usize) -> Option<usize> {
-    let stored = bytes.get(at..at.checked_add(width)?)?;
-    Some(stored.iter().rev().fold(0, |n, b| n << 8 | usize::from(*b)))
-}
-
-struct Reader {
-    names: Vec<String>,
-    /// values still to be read: each has a byte of its own, so that altered bytes cannot make it long
-    left: usize,
-    out: String,
-}
-
-/// The parts of a list or an object: the places of its ids, offsets and data.
-struct Parts {
-    count: usize,
-    id_width: usize,
-    offset_width: usize,
-    ids: usize,
-    offsets: usize,
-    data: usize,
-}
-
-impl Reader {
-    fn value(&mut self, bytes: &[u8], depth: usize) -> Option<()> {
-        self.left = self.left.checked_sub(1)?;
-        let first = *bytes.first()?;
-        match first & 3 {
-            0 => writeln!(self.out, "{}", scalar(first >> 2, &bytes[1..])?).ok(),
-            1 => writeln!(self.out, "text {}", text(bytes.get(1..1 + usize::from(first >> 2))?)).ok(),
-            2 => self.container(bytes, depth, true),
-            _ => self.container(bytes, depth, false),
+fn list(record: Record, depth: usize, out: &mut String) -> Option<()> {
+    let (first, payload) = record.value().split_first()?;
+    let indent = 2 * depth;
+    match first & 3 {
+        SHORT_TEXT => writeln!(out, "text {}", text(payload)).ok(),
+        OBJECT => {
+            writeln!(out, "object of {}", record.fields().len()).ok()?;
+            record.fields().try_for_each(|(name, part)| {
+                write!(out, "{:indent$}{}: ", "", escaped(name)).ok()?;
+                list(part, depth + 1, out)
+            })
         }
-    }
-
-    fn container(&mut self, bytes: &[u8], depth: usize, object: bool) -> Option<()> {
-        let p = parts(bytes, object)?;
-        let kind = if object { "object" } else { "list" };
-        writeln!(self.out, "{kind} of {}", p.count).ok()?;
-        for i in 0..p.count {
-            write!(self.out, "{:1$}", "", 2 * depth).ok()?;
-            if object {
-                let id = number(bytes, p.ids + i * p.id_width, p.id_width)?;
-                write!(self.out, "{}: ", self.names.get(id)?.escape_debug()).ok()?;
-            }
-            let offset = number(bytes, p.offsets + i * p.offset_width, p.offset_width)?;
-            // 64 containers may be open, one in the other
-            self.value(bytes.get(p.data + offset..).filter(|_| depth <= 64)?, depth + 1)?;
+        LIST => {
+            writeln!(out, "list of {}", record.elements().len()).ok()?;
+            record.elements().try_for_each(|part| {
+                write!(out, "{:indent$}", "").ok()?;
+                list(part, depth + 1, out)
+            })
         }
-        Some(())
+        _ => writeln!(out, "{}", scalar(first >> 2, payload)?).ok(),
     }
 }
 
-fn parts(bytes: &[u8], object: bool) -> Option<Parts> {
-    let first = usize::from(*bytes.first()?);
-    let (id_width, large) = if object { ((first >> 4 & 3) + 1, first >> 6 & 1) } else { (0, first >> 4 & 1) };
-    let offset_width = (first >> 2 & 3) + 1;
-    let count_width = 1 + 3 * large;
-    let count = number(bytes, 1, count_width)?;
-    let ids = 1 + count_width;
-    let offsets = ids + count * id_width;
-    let data = offsets + (count + 1) * offset_width;
-    (data <= bytes.len()).then_some(Parts { count, id_width, offset_width, ids, offsets, data })
+fn escaped(name: &[u8]) -> String {
+    String::from_utf8_lossy(name).escape_debug().to_string()
 }
 
 /// A scalar by its type's code, from its payload.
@@ -97,7 +51,7 @@ fn scalar(code: u8, payload: &[u8]) -> Option<String> {
     };
     let decimal = |size| Some(point(signed(1, size)?, usize::from(payload[0])));
     let moment = |unit: i128, zone: &str| Some(timestamp(signed(0, 8)?, unit, zone));
-    let bytes = || payload.get(4..number(payload, 0, 4)?.checked_add(4)?);
+    let bytes = || payload.get(4..);
     Some(match code {
         0 => "null".into(),
         1 => "true".into(),

@@ -1,4 +1,4 @@
-//! The calls of the crate `ffi` as they are linked: declarations only.
+//! The calls of the crates `ffi` and `reader_ffi` as they are linked: declarations only.
 //!
 //! # Safety
 //!
@@ -160,6 +160,33 @@ extern "C" {
         value: *mut usize,
         next: *mut usize,
         tail: *mut usize,
+    ) -> u8;
+
+    /// A metadata that is no whole dictionary is refused with 19, then a value that is not one of the grammar over its names with 20.
+    pub fn variant_read(
+        metadata: *const u8, metadata_len: usize,
+        value: *const u8, value_len: usize,
+    ) -> u8;
+
+    /// The pair is judged as by `variant_read`. Into `kind`: 0, the value is an object with a field of this name, whose value lies from `start` up
+    /// to `end` of `value`; 1, there is no such field, and `start` and `end` stay as they were.
+    pub fn variant_field(
+        metadata: *const u8, metadata_len: usize,
+        value: *const u8, value_len: usize,
+        name: *const u8, name_len: usize,
+        kind: *mut u8,
+        start: *mut usize,
+        end: *mut usize,
+    ) -> u8;
+
+    /// The pair is judged as by `variant_read`. Into `kind`: 0, the value is an object with a field that is int8 to int64, and `id` and `number` are
+    /// those of the first one in order of names; 1, there is no such field, and they stay as they were.
+    pub fn variant_first_integer(
+        metadata: *const u8, metadata_len: usize,
+        value: *const u8, value_len: usize,
+        kind: *mut u8,
+        id: *mut usize,
+        number: *mut i64,
     ) -> u8;
 
     /// The day number of a date, counted from 1970-01-01, into `days`; refused with 17.

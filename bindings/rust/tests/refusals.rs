@@ -5,7 +5,7 @@ mod unchanged;
 
 use common::{call_unnamed, Lent, LENT};
 use unchanged::{all_refused, finish, refused};
-use variant_writer::{batch_add, batch_start, sys, BatchReader, Date, Refusal, Variant, VariantBuilder};
+use variant_writer::{batch_add, batch_start, sys, BatchReader, Date, Record, Refusal, Variant, VariantBuilder};
 
 fn object(unique: bool) -> VariantBuilder<'static> {
     let mut b = VariantBuilder::new();
@@ -179,6 +179,15 @@ fn batch_files() {
     assert_eq!(BatchReader::new(&[]).map(|_| ()), Err(Refusal::NotBatch));
     let records = BatchReader::new(&[1, 0, 0, 0, 3, 0, 0, 0, 0, 0, 0, 5, 0, 0, 0, 2, 9]).unwrap();
     assert_eq!(records.map(|record| record.unwrap_err().number()).collect::<Vec<_>>(), [19, 19]);
+}
+
+/// A record that is read: the dictionary is judged first.
+#[test]
+fn records() {
+    for (number, dictionary, value) in [(19, &[1, 0, 0, 0][..], &[][..]), (20, &[1, 0, 0], &[]), (20, &[1, 0, 0], &[84])] {
+        assert_eq!(Record::read(dictionary, value), Err(Refusal::of(number).unwrap()));
+    }
+    assert_eq!(Record::read(&[1, 0, 0], &[0]).map(|record| record.value()), Ok(&[0][..]));
 }
 
 #[test]

@@ -192,6 +192,38 @@ fn batch_files() {
     assert_eq!(answers(&format!("new floor=0\n{asked}close\nnew\n{asked}")), format!("refused 24\n{told}no builder\nnew\n{told}"));
 }
 
+/// They need no builder. The object has b, a number, and a, an object of c.
+#[test]
+fn records() {
+    let pair = "dict=010300010203626163 value=020201000200090c0102010200020c07";
+    let other = "value=1x00 dict=010000";
+    let cases = [
+        (format!("read {pair}"), "ok"),
+        (format!("read {pair}00"), "refused 20"),
+        (format!("read {pair} dict=0103"), "refused 19"),
+        (format!("field {pair} name=62"), "ok at=7 len=2"),
+        (format!("field name=61 {pair}"), "ok at=9 len=7"),
+        (format!("field name=63 {pair}"), "none"),
+        (format!("field name=ff {pair}"), "none"),
+        (format!("field {pair}"), "none"),
+        (format!("field {pair} value"), "refused 20"),
+        (format!("firstint {pair}"), "ok id=0 number=1"),
+        (format!("firstint {pair} value=02010200020c80"), "ok id=2 number=-128"),
+        (format!("read {other}"), "ok"),
+        (format!("field name= {other}"), "none"),
+        (format!("firstint {other}"), "none"),
+        (format!("firstint {other} value="), "refused 20"),
+        ("read dict=010000".into(), "refused 20"),
+        ("read".into(), "refused 19"),
+        ("field name=61".into(), "refused 19"),
+        ("firstint value=00".into(), "refused 19"),
+    ];
+    let asked: String = cases.iter().map(|(line, _)| format!("{line}\n")).collect();
+    let told: String = cases.iter().map(|(_, answer)| format!("{answer}\n")).collect();
+    assert_eq!(answers(&asked), told);
+    assert_eq!(answers(&format!("new floor=0\n{asked}close\nnew\n{asked}")), format!("refused 24\n{told}no builder\nnew\n{told}"));
+}
+
 /// They need no builder.
 #[test]
 fn days_and_dates() {
@@ -309,6 +341,14 @@ batchread 01
 batchread file
 batchread file=01 out=9
 batchread file=01 file=1
+read value=6
+read 00
+read name=61
+read value=zz value=00
+field key=61
+field name=61=61
+firstint dict=6g
+firstint out=9
 append name=6 null
 open
 open 61 list

@@ -36,7 +36,7 @@ place-small {w} {n} h k = omega (arith, mul-le-mul-right (n + 2) h)
 
 -- ---- a name by its id
 
-end-at : (w n i : ℕ) (l : List ℕ) → i < n → getD (numbers w n l) i 0 ≡ numberAt l (w * i) w
+pub end-at : (w n i : ℕ) (l : List ℕ) → i < n → getD (numbers w n l) i 0 ≡ numberAt l (w * i) w
 unfolding numbers
 end-at w zero i l h = absurd (omega arith)
 end-at w (suc n) zero l h = rw (mul-zero w)

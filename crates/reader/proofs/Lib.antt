@@ -1,3 +1,5 @@
--- Laws of the grammar.
-pub mod ShapeLaws
-pub mod ScalarLaws
+-- Laws of the reader.
+pub mod ValueLaws
+pub mod PairLaws
+pub mod FieldLaws
+pub mod AnswerLaws

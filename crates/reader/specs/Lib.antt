@@ -1,3 +1,2 @@
--- Document 02, A6: which pairs of dictionary and value are accepted, and as what they read.
-pub mod Scalars
-pub mod Grammar
+-- What the reader answers (document 02, A6).
+pub mod Answers

@@ -21,7 +21,7 @@ use Rattle.semantics.proofs.RunLaws.{follows-run, account-history}
 use Rattle.semantics.proofs.Demand2.{names-few, value, written}
 
 -- the kept top value is sound: its bytes lie in a buffer that counts to 4,294,967,295
-sound : (s : State) (cs : List Call) (r : FinishedRun s cs) → Sound (floorOf s) (kept s cs .names) (value s cs r .0)
+pub sound : (s : State) (cs : List Call) (r : FinishedRun s cs) → Sound (floorOf s) (kept s cs .names) (value s cs r .0)
 sound s cs r =
     let x = follows-run s cs (r .fresh) in
     let v = value s cs r in

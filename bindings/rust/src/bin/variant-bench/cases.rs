@@ -103,6 +103,20 @@ pub fn write_depth<W: Writer>(w: &mut W, depth: usize) {
     w.finish();
 }
 
+/// Objects in each other, each with fields of these names and its child behind them.
+pub fn write_wide<W: Writer>(w: &mut W, depth: usize, names: &[String]) {
+    for level in 0..depth {
+        w.open((level > 0).then_some("child"), true);
+        for (i, name) in names.iter().enumerate() {
+            w.int32(Some(name), i as i32);
+        }
+    }
+    for _ in 0..depth {
+        w.close();
+    }
+    w.finish();
+}
+
 pub fn write_list<W: Writer>(w: &mut W, n: usize) {
     w.open(None, false);
     for i in 0..n {

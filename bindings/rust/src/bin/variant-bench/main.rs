@@ -3,11 +3,13 @@
 //!     variant-bench [ROUNDS]            the table, in Markdown; status 1 where the writers' bytes differ
 //!     variant-bench rows                the kinds of record, and how many are written
 //!     variant-bench count WAY RECORD    one kind's records written one way ("verified-reused" ..), for instruction counts
+//!     variant-bench reading [ROUNDS]    the times of reading, in nanoseconds, in Markdown
 mod cases;
 mod plain;
+mod reading;
 mod writers;
 
-use cases::{names, scans, write_depth, write_fields, write_list, write_scan, Order, Scan, Writer};
+use cases::{names, scans, write_depth, write_fields, write_list, write_scan, write_wide, Order, Scan, Writer};
 use plain::PlainBuilder;
 use std::hint::black_box;
 use std::ops::Range;
@@ -25,6 +27,8 @@ enum Case {
     /// Fields of these names, registered beforehand or not.
     Fields(Vec<String>, bool),
     Depth(usize),
+    /// So many objects in each other, each with fields of these names and a child.
+    Wide(usize, Vec<String>),
     List(usize),
 }
 
@@ -42,6 +46,7 @@ impl Case {
             Case::Scans(s) => write_scan(w, &s[i]),
             Case::Fields(names, registered) => write_fields(w, names, *registered),
             Case::Depth(n) => write_depth(w, *n),
+            Case::Wide(n, names) => write_wide(w, *n, names),
             Case::List(n) => write_list(w, *n),
         }
     }
@@ -199,17 +204,20 @@ fn count(way: &str, title: &str) {
 }
 
 fn usage() -> ! {
-    eprintln!("usage: variant-bench [ROUNDS] | rows | count WAY RECORD");
+    eprintln!("usage: variant-bench [ROUNDS] | rows | count WAY RECORD | reading [ROUNDS]");
     exit(2)
 }
 
 fn main() {
     let args: Vec<String> = std::env::args().skip(1).collect();
+    let number = |rounds: &str| rounds.parse().unwrap_or_else(|_| usage());
     match args.iter().map(String::as_str).collect::<Vec<_>>()[..] {
         [] => table(25),
         ["rows"] => rows().iter().for_each(|r| println!("{}|{}", r.title, r.records)),
         ["count", way, title] => count(way, title),
-        [rounds] => table(rounds.parse().unwrap_or_else(|_| usage())),
+        ["reading"] => reading::table(25),
+        ["reading", rounds] => reading::table(number(rounds)),
+        [rounds] => table(number(rounds)),
         _ => usage(),
     }
 }

@@ -2,13 +2,28 @@
 use crate::parse::{bytes, date, packed, scale, signed, signed64, unsigned, Expected};
 use crate::session::{buffer, hex, output, setting};
 use std::fmt::Write;
-use variant_writer::{batch_add, batch_start, write_packed_decimal, BatchReader, Date, Refusal, VariantBuilder};
+use variant_writer::{
+    batch_add, batch_start, find_field, find_first_integer, write_packed_decimal, BatchReader, Date, Record, Refusal, VariantBuilder,
+};
 
-pub const VERBS: [&str; 7] = ["days", "civil", "packdec", "readdec", "batchstart", "batchadd", "batchread"];
+pub const VERBS: [&str; 10] = ["days", "civil", "packdec", "readdec", "batchstart", "batchadd", "batchread", "read", "field", "firstint"];
 
-/// Adds the answer line: `ok` and what the call tells, or the refusal.
+/// Adds the answer line: what the call tells, or the refusal.
 pub fn answer(verb: &str, rest: &[&str], out: &mut String) -> Expected<()> {
-    let told = match (verb, rest) {
+    let told = match verb {
+        "read" | "field" | "firstint" => of_record(verb, rest)?,
+        _ => told(verb, rest)?.map(|told| format!("ok {told}")),
+    };
+    match told {
+        Ok(told) => writeln!(out, "{told}"),
+        Err(refusal) => writeln!(out, "refused {}", refusal.number()),
+    }
+    .map_err(|e| e.to_string())
+}
+
+/// What stands behind the `ok` of an answer.
+fn told(verb: &str, rest: &[&str]) -> Expected<Result<String, Refusal>> {
+    Ok(match (verb, rest) {
         ("days", [y, m, d]) => date(y, m, d)?.days().map(|n| n.to_string()),
         ("days", _) => return Err("days Y M D".into()),
         ("civil", [n]) => Date::from_days(signed64(n)?).map(|d| format!("{} {} {}", d.year, d.month, d.day)),
@@ -29,12 +44,32 @@ pub fn answer(verb: &str, rest: &[&str], out: &mut String) -> Expected<()> {
             let [file] = words(rest, &["file"], [""])?;
             records(&bytes(file)?)
         }
-    };
-    match told {
-        Ok(told) => writeln!(out, "ok {told}"),
-        Err(refusal) => writeln!(out, "refused {}", refusal.number()),
+    })
+}
+
+/// The answer to a call that judges a dictionary and a value.
+fn of_record(verb: &str, rest: &[&str]) -> Expected<Result<String, Refusal>> {
+    let keys = if verb == "field" { &["value", "dict", "name"][..] } else { &["value", "dict"] };
+    let [value, dictionary, name] = byte_words(rest, keys)?;
+    let none = || "none".into();
+    Ok(match verb {
+        "read" => Record::read(&dictionary, &value).map(|_| "ok".into()),
+        "field" => find_field(&dictionary, &value, &name)
+            .map(|found| found.map_or_else(none, |place| format!("ok at={} len={}", place.start, place.len()))),
+        _ => find_first_integer(&dictionary, &value)
+            .map(|found| found.map_or_else(none, |(id, number)| format!("ok id={id} number={number}"))),
+    })
+}
+
+/// The bytes of words KEY=BYTES; a key alone has none, as one that is left out, and of one that comes again the last counts.
+fn byte_words(rest: &[&str], keys: &[&str]) -> Expected<[Vec<u8>; 3]> {
+    let mut given = [const { Vec::new() }; 3];
+    for word in rest {
+        let alone = keys.iter().position(|key| key == word).map(|at| (at, ""));
+        let (at, digits) = alone.map_or_else(|| setting(word, keys), Ok)?;
+        given[at] = bytes(digits)?;
     }
-    .map_err(|e| e.to_string())
+    Ok(given)
 }
 
 fn hexadecimal(bytes: &[u8]) -> String {

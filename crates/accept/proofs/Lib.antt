@@ -1,0 +1,4 @@
+-- Laws.
+pub mod TreeReads
+pub mod KeptReads
+pub mod Accepted

@@ -1,0 +1,2 @@
+-- Document 02, A6: the reading of what a run keeps.
+pub mod Shape

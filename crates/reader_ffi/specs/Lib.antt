@@ -1,0 +1,2 @@
+-- Document 02, A6: the reader's answers as numbers.
+pub mod Words

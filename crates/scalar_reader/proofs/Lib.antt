@@ -1,0 +1,4 @@
+-- Laws about what is read.
+pub mod NumberLaws
+pub mod RangeLaws
+pub mod IntegerLaws

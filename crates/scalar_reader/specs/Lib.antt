@@ -1,0 +1,2 @@
+-- Document 02, A6: the integers among the scalars.
+pub mod Integers

@@ -18,7 +18,10 @@ use Rattle.semantics.proofs.MadeLaws.{made-finished}
 use Rattle.semantics.proofs.Demands.{made}
 use Rattle.lexicon.specs.Dictionary.{widthIn, markIn}
 use Rattle.lexicon.proofs.DictionaryLaws.{dictionary-reads, reads-width, reads-mark, reads-names}
+use Rattle.encoding.specs.Rows.{first}
 use Rattle.grammar.specs.Grammar.{Shape, ReadsPair}
+use Rattle.grammar.specs.Tests.{pairRows}
+use Rattle.grammar.proofs.TestLaws.{reads-pair}
 use Rattle.accept.specs.Shape.{shapeOf}
 use Rattle.accept.proofs.TreeReads.{tree-accepted}
 use Rattle.accept.proofs.KeptReads.{kept-within, kept-text, kept-small}
@@ -58,3 +61,10 @@ made-read {s} {cs = cs} r = let m = made (r .made) in rw (m .0, m .1) (run-read 
 pub made-accepted : {s u : State} {cs : List Call} {d : List ℕ} → FinishedCalls s cs u d
     → (t : Shape) × ReadsPair d (valueBytes u) (widthIn d) (markIn d) (dictionaryNames d) t
 made-accepted {s} {cs = cs} r = let x = made-read r in (shapeOf (floorOf s) (kept s cs .names) (x .0), accepted-in (floorOf s) (kept s cs .names) (x .0) (x .2))
+
+-- So the reader answers 0: this is its number (`read_pair`, reader/src/read.rt).
+pub run-number : (s : State) (cs : List Call) → FinishedRun s cs → first (pairRows (dictionaryBytes s cs) (valueBytes (run s cs))) ≡ 0
+run-number s cs r = reads-pair (run-read s cs r .2)
+
+pub made-number : {s u : State} {cs : List Call} {d : List ℕ} → FinishedCalls s cs u d → first (pairRows d (valueBytes u)) ≡ 0
+made-number r = reads-pair (made-read r .2)

@@ -27,6 +27,7 @@ mod listing;
 mod packed;
 mod record;
 mod refusal;
+mod small;
 pub mod sys;
 mod variant;
 mod words;
@@ -38,6 +39,7 @@ pub use listing::listing;
 pub use packed::write_packed_decimal;
 pub use record::{find_field, find_first_integer, Record};
 pub use refusal::Refusal;
+pub use small::{small_values, write_small_values};
 pub use variant::Variant;
 
 /// How many state words a builder has: 9 counts, 64 containers of 11 words, and for each how many elements it has, if it is a list

@@ -65,6 +65,7 @@ rows! {
     22 NoMark "a seventeenth mark in a container, a mark outside any, or a return to one that is not set"
     23 UndoFull "no room for the offset of a field that is replaced under a mark: the undo records are full"
     24 FloorOutOfRange "a floor for widths that is not 1 to 4 bytes: no builder is made"
+    26 BadLength "small values of another length than 1, 2 or 3 bytes"
 }
 
 impl fmt::Display for Refusal {

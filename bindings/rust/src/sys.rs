@@ -189,6 +189,14 @@ extern "C" {
         number: *mut i64,
     ) -> u8;
 
+    /// Every value of `length` bytes, 1 to 3, that is read over the dictionary 01 00 00, as a batch file at the start of `out`, its length into
+    /// `written`. Any other length is refused with 26, then an output too short with 14.
+    pub fn variant_write_small_values(
+        length: usize,
+        out: *mut u8, out_len: usize,
+        written: *mut usize,
+    ) -> u8;
+
     /// The day number of a date, counted from 1970-01-01, into `days`; refused with 17.
     pub fn variant_days_of(year: i64, month: i64, day: i64, days: *mut i32) -> u8;
 

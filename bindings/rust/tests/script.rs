@@ -225,6 +225,16 @@ fn records() {
 }
 
 /// They need no builder.
+/// The digests are the model's.
+#[test]
+fn small_values() {
+    let script = "small 1\nsmall 2\nsmall 3\nsmall 0\nsmall 4\nsmall 1 out=48\nsmall 1 out=49\nsmall 3 out=1173830\nsmall 4 out=0\n";
+    let one = "ok count=4 bytes=49 sha256=133a2208c00f9bf8cf4472538314a9930f577567dba5ebc696206f68f035070e";
+    let two = "ok count=384 bytes=4993 sha256=730800e4d9d1ffff49bdb564ed159da9f40955cb987e4eccd183fc1faf739f45";
+    let three = "ok count=83845 bytes=1173831 sha256=62a2612f9ba0fa81c4b9bd7a7ce769d94fe5f80f362e301e2e1a0bbac0db80da";
+    assert_eq!(answers(script), format!("{one}\n{two}\n{three}\nrefused 26\nrefused 26\nrefused 14\n{one}\nrefused 14\nrefused 26\n"));
+}
+
 #[test]
 fn days_and_dates() {
     let asked = "days 1 1 1\ndays 9999 12 31\ndays 2000 2 29\ndays 0 2 29\ndays 9223372036854775807 1 1\n\

@@ -1,13 +1,19 @@
 -- What the reader's calls answer as numbers, over what stood there.
 use mathlib.Core.Path.{_≡_}
+use mathlib.Core.Bool.{cond}
 use mathlib.Core.List.{List}
 use Prim.Native.Nat.{ℕ}
+use lib.Dec.{eqb}
 use lib.IntN.{ℤ}
+use lib.ListN.{length}
+use Rattle.encoding.specs.Rows.{first}
+use Rattle.encoding.specs.Slices.{write}
 use Rattle.reader.specs.declared.FieldPlace.{FieldPlace}
 use Rattle.reader.specs.declared.FieldPlace.the-variants as place
 use Rattle.reader.specs.declared.FirstInteger.{FirstInteger}
 use Rattle.reader.specs.declared.FirstInteger.the-variants as integer
 use Rattle.reader.specs.Answers.{FindsField, FindsInteger, placeNumber, integerNumber}
+use Rattle.small_values.specs.Small.{fileOf, smallRows}
 
 -- ---- a field by its name
 
@@ -51,3 +57,11 @@ pub record TellsInteger (n : ℕ) (d v : List ℕ) (before after : IntegerWords)
   pub finds : FindsInteger d v answer
   pub answered : n ≡ integerNumber answer
   pub words : after ≡ integerOver before answer
+
+-- ---- all the small values
+
+-- document 02, A13: the file at the front of the output, its length told; a refused call leaves both
+pub record TellsSmall (n size : ℕ) (out after : List ℕ) (before written : ℕ) : Type 0 where
+  pub number : n ≡ first (smallRows size out)
+  pub bytes : after ≡ cond (eqb n 0) (write 0 (fileOf size) out) out
+  pub length : written ≡ cond (eqb n 0) (length (fileOf size)) before

@@ -1,14 +1,16 @@
-// The reader's calls for other languages (document 02, A6): slices lent, numbers told. No call demands anything of its caller but that what
+// The reader's calls for other languages (document 02, A6 and A13): slices lent, numbers told. No call demands anything of its caller but that what
 // is lent is valid and does not overlap, which is outside the proof. What a call does not tell stays as it was.
 use reader::FieldPlace;
 use reader::FirstInteger;
 use reader::find_field;
 use reader::first_integer;
 use reader::read_pair;
+use small_values::SmallValues;
+use small_values::write_small_values;
 ghost use mathlib.Core.Path.{_≡_};
 ghost use Rattle.encoding.specs.Rows.{first};
 ghost use Rattle.grammar.specs.Tests.{pairRows};
-ghost use Rattle.reader_ffi.specs.Words.{TellsField, TellsInteger, fieldWords, integerWords};
+ghost use Rattle.reader_ffi.specs.Words.{TellsField, TellsInteger, TellsSmall, fieldWords, integerWords};
 
 // 19 where `metadata` is no whole dictionary, then 20 where `value` is not one value of the grammar over its names, else 0.
 #[no_mangle]
@@ -76,5 +78,26 @@ pub extern "C" fn variant_first_integer(
             0
         }
         FirstInteger::Refused(n) => n,
+    }
+}
+
+// Every value of 1, 2 or 3 bytes that is read over the dictionary 01 00 00, as a batch file at the start of `out`, its length into `written`;
+// 26 for any other length, then 14 where it does not fit.
+#[no_mangle]
+pub extern "C" fn variant_write_small_values(
+    length: usize,
+    out: &mut [u8],
+    written: &mut usize,
+) -> u8
+    ensures { λ r. ⌜ TellsSmall r length (now (out .entry)) (now (out .exit)) (now (written .entry)) (now (written .exit)) ⌝ }
+{
+    let s = write_small_values(length, out);
+    match s {
+        SmallValues::Written(n) => {
+            *written = n;
+            0
+        }
+        SmallValues::BadLength => 26,
+        SmallValues::NoRoom => 14,
     }
 }

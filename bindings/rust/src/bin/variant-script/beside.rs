@@ -1,12 +1,15 @@
 //! The calls that need no builder.
 use crate::parse::{bytes, date, packed, scale, signed, signed64, unsigned, Expected};
 use crate::session::{buffer, hex, output, setting};
+use crate::sha256::sha256;
 use std::fmt::Write;
 use variant_writer::{
-    batch_add, batch_start, find_field, find_first_integer, write_packed_decimal, BatchReader, Date, Record, Refusal, VariantBuilder,
+    batch_add, batch_start, find_field, find_first_integer, write_packed_decimal, write_small_values, BatchReader, Date, Record, Refusal,
+    VariantBuilder,
 };
 
-pub const VERBS: [&str; 10] = ["days", "civil", "packdec", "readdec", "batchstart", "batchadd", "batchread", "read", "field", "firstint"];
+pub const VERBS: [&str; 11] =
+    ["days", "civil", "packdec", "readdec", "batchstart", "batchadd", "batchread", "read", "field", "firstint", "small"];
 
 /// Adds the answer line: what the call tells, or the refusal.
 pub fn answer(verb: &str, rest: &[&str], out: &mut String) -> Expected<()> {
@@ -40,6 +43,11 @@ fn told(verb: &str, rest: &[&str]) -> Expected<Result<String, Refusal>> {
             batch_start(&mut file).map(|used| used_bytes(&file, used))
         }
         ("batchadd", _) => added(rest)?,
+        ("small", [length, rest @ ..]) => {
+            let [size] = words(rest, &["out"], ["2000000"])?;
+            small(unsigned(length)?, buffer(unsigned(size)?)?)
+        }
+        ("small", _) => return Err("small LENGTH [out=N]".into()),
         _ => {
             let [file] = words(rest, &["file"], [""])?;
             records(&bytes(file)?)
@@ -76,6 +84,13 @@ fn hexadecimal(bytes: &[u8]) -> String {
     let mut digits = String::new();
     hex(bytes, &mut digits);
     digits
+}
+
+/// The small values of a length: how many, the bytes of their file, and its digest.
+fn small(length: usize, mut out: Vec<u8>) -> Result<String, Refusal> {
+    let written = write_small_values(length, &mut out)?;
+    let count = BatchReader::new(&out[..written])?.count();
+    Ok(format!("count={count} bytes={written} sha256={}", hexadecimal(&sha256(&out[..written]))))
 }
 
 /// The packed decimal of a number.

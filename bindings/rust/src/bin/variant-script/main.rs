@@ -5,6 +5,7 @@ mod beside;
 mod parse;
 mod poke;
 mod session;
+mod sha256;
 
 use session::Session;
 use std::fs::File;

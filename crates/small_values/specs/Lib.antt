@@ -1,0 +1,2 @@
+-- Document 02, A13: all the small values.
+pub mod Small

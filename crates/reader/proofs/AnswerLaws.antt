@@ -1,6 +1,6 @@
 -- What is found over bytes is what the reading has.
 use mathlib.Core.Path.{_≡_, refl, sym, _∙_, ap}
-use mathlib.Core.Bool.{Bool, true, false, cond, not}
+use mathlib.Core.Bool.{Bool, true, false, cond, not, false≢true}
 use mathlib.Core.List.{List, [], _∷_}
 use Prim.Native.Nat.{ℕ, _+_, _-_, _%_}
 use native.Mathlib.Omega.{arith}
@@ -14,10 +14,10 @@ use Rattle.container.specs.Entries.{idsOf, offsetsOf}
 use Rattle.container.specs.Sort.{nameAt}
 use Rattle.measure.specs.Measure.{measured}
 use Rattle.lexicon.proofs.DictionaryLaws.{both}
-use Rattle.grammar.specs.Grammar.{Shape, scalar, list, object, Shapes, layout, layouts, startsFrom, among, starting, Fits}
+use Rattle.grammar.specs.Grammar.{Shape, scalar, list, object, Shapes, layout, layouts, startsFrom, among, starting, Fits, ReadsPair}
 use Rattle.grammar.specs.Tests.{objectFrom, objectOffsets, pairRows, storedIds}
 use Rattle.grammar.specs.Fields.{shapeAt}
-use Rattle.grammar.proofs.FieldLaws.{FieldAt, scalar-first, list-first, object-first, object-bytes, value-at}
+use Rattle.grammar.proofs.FieldLaws.{FieldAt, fits-more, scalar-first, list-first, object-first, object-bytes, value-at}
 use Rattle.scalar_reader.specs.declared.integers.Integer.{Integer}
 use Rattle.scalar_reader.specs.declared.integers.Integer.the-variants.{Number, Other}
 use Rattle.scalar_reader.specs.Integers.{integerIn}
@@ -29,6 +29,11 @@ use Rattle.reader.specs.declared.FirstInteger.the-variants as integer
 use Rattle.reader.specs.Answers.{FindsField, FindsInteger, fieldAmong, fieldIn, placeNumber, integerShape, orNext, integerAmong, integerFirst, integerNumber, partOf, partAt, fieldBy, fieldFound, integerBy, integerFound}
 
 -- ---- a number, by its bytes
+
+abbrev isPart : FieldPlace → Bool
+isPart (answer.Part s e) = true
+isPart answer.Missing = false
+isPart (answer.Refused n) = false
 
 integer-shape : (names : List Name) (depth : ℕ) (t : Shape) → Fits names depth t → integerIn (layout t) ≡ integerShape t
 unfolding layout
@@ -77,6 +82,48 @@ module _ (names : List Name) (d w u : ℕ) (big : Bool) (fs : List Entry) (ts : 
       let p = both {a = among (x .offset) (startsFrom 0 (layouts ts))} s in
       let q = both {a = not (among (x .offset) (offsetsOf es))} (p .1) in
       rw (integer-found (x .offset) (p .0), integers-found es (q .1))
+
+  -- a field that is found is one of the values
+  record FoundAt (s e : ℕ) : Type 0 where
+    offset : ℕ
+    start : among offset (startsFrom 0 (layouts ts)) ≡ true
+    part : answer.Part s e ≡ partAt v offset
+
+  found-at : (name : Name) (es : List Entry) {s e : ℕ} → starting (startsFrom 0 (layouts ts)) (offsetsOf es) ≡ true → fieldAmong names name (objectFrom v) ts es ≡ answer.Part s e → FoundAt s e
+  unfolding starting fieldAmong
+  found-at name [] g q = absurd (false≢true (ap isPart q))
+  found-at name (x ∷ es) {s} {e} g q =
+      let p = both {a = among (x .offset) (startsFrom 0 (layouts ts))} g in
+      let r = both {a = not (among (x .offset) (offsetsOf es))} (p .1) in
+      go (same (nameAt names (x .id)) name) (p .0) q (found-at name es (r .1))
+    where
+      here : FieldPlace
+      here = answer.Part (objectFrom v + x .offset) (objectFrom v + x .offset + length (layout (shapeAt (x .offset) 0 ts)))
+
+      go : (t : Bool) → among (x .offset) (startsFrom 0 (layouts ts)) ≡ true → cond t here (fieldAmong names name (objectFrom v) ts es) ≡ answer.Part s e
+          → (fieldAmong names name (objectFrom v) ts es ≡ answer.Part s e → FoundAt s e) → FoundAt s e
+      go true a q f = record { offset = x .offset; start = a; part = sym q ∙ sym (part-shape (x .offset) a) }
+      go false a q f = f q
+
+-- THE PART that is found is read again over the same dictionary, so that calls compose
+pub part-read : {d v : List ℕ} {w : ℕ} {mark : Bool} {names : List Name} (t : Shape) (name : Name) {s e : ℕ} → ReadsPair d v w mark names t → fieldIn names name t ≡ answer.Part s e
+    → (u : Shape) × ReadsPair d (partOf v (answer.Part s e)) w mark names u
+unfolding fieldIn
+part-read (scalar s) name r q = absurd (false≢true (ap isPart q))
+part-read (list w big ts) name r q = absurd (false≢true (ap isPart q))
+part-read {v = v} {names = names} (object w u big es ts) name {s} {e} r q =
+    let f = r .second .fits in
+    let l = r .second .laid in
+    let o = object-bytes names 64 w u big es ts f v l in
+    let x : length (layout (object w u big es ts)) - length (joined (layouts ts)) ≡ objectFrom v = omega (arith, o .size, ap length l) in
+    let k = found-at names 64 w u big es ts f v l name es (f .2 .offsets) (rw x at q) in
+    let b : partOf v (partAt v (k .offset)) ≡ layout (shapeAt (k .offset) 0 ts) = part-bytes names 64 w u big es ts f v l (k .offset) (k .start) in
+    let i = there names 64 w u big es ts f v l (k .offset) (k .start) in
+    let room = i .room in
+    let size = r .second .size in
+    let laid : partOf v (answer.Part s e) ≡ layout (shapeAt (k .offset) 0 ts) = ap (partOf v) (k .part) ∙ b in
+    let long = ap length laid in
+    (shapeAt (k .offset) 0 ts, record { first = r .first; second = record { laid = laid; fits = fits-more names (shapeAt (k .offset) 0 ts) (i .fits) (omega arith); size = omega arith } })
 
 -- ---- by name
 

@@ -611,14 +611,19 @@ def wide(new, number, short):
 
 # ---------------------------------------------------------------- marks
 
+def stepped(run, most, weights):
+    """Some random calls, then the end."""
+    for _ in range(run.rng.randrange(5, most)):
+        run.step(weights)
+    run.wind_up()
+    return run
+
+
 def marked_fields(new):
     """Few names, so that most fields are replaced."""
     run = new(pool=[b"b", b"a", b"ab"][:new.rng.randint(1, 3)], unique=new.rng.random() < 0.1, marked=5)
     run.open("object")
-    for _ in range(run.rng.randrange(5, 50)):
-        run.step((12, 5, 2, 4, 1))
-    run.wind_up()
-    return run
+    return stepped(run, 50, (12, 5, 2, 4, 1))
 
 
 def sixteen_marks(new):
@@ -641,20 +646,14 @@ def few_records(new):
     run.open("object")
     put(run, run.pool[0])
     run.mark()
-    for _ in range(run.rng.randrange(5, 40)):
-        run.step((9, 5, 2, 4, 0.2))
-    run.wind_up()
-    return run
+    return stepped(run, 40, (9, 5, 2, 4, 0.2))
 
 
 def marked_lists(new):
     """Lists, and objects within them, where few entries are lent, or none."""
     run = new(pool=MIXED[:3], entries=new.rng.choice((0, 0, 2, 4, 6)), marked=6)
     run.open("list")
-    for _ in range(run.rng.randrange(5, 40)):
-        run.step((6, 3, 2, 3, 1))
-    run.wind_up()
-    return run
+    return stepped(run, 40, (6, 3, 2, 3, 1))
 
 
 def marked_deep(new):

@@ -36,6 +36,19 @@ def aliases_of(text, table):
     return {n: snake(n) for n in names}
 
 
+USE = re.compile(r"\buse ([^\s;{]+?)\.?(?:\{([^}]*)\})?(?: as \S+)?;?(?=\s|$)")
+
+
+def brought(text, crates):
+    """The names that a file brings in from a library: they keep their spelling."""
+    out = set()
+    for path, items in USE.findall(text):
+        steps = path.split(".")
+        if not (steps[0] == "Rattle" and len(steps) > 1 and steps[1] in crates):
+            out.update(WORD.findall(RENAMED.sub(lambda m: m[1], items)) if items else steps[-1:])
+    return out
+
+
 def files(top):
     for folder, folders, names in os.walk(os.path.join(top, "crates")):
         folders[:] = sorted(f for f in folders if f not in ("out", "must-fail", "data"))
@@ -156,10 +169,12 @@ def main():
     check = "--check" in sys.argv
     top = args[0] if args else os.path.join(os.path.dirname(os.path.realpath(__file__)), "..")
     texts = {p: read(p) for p in files(top)}
+    crates = set(os.listdir(os.path.join(top, "crates")))
     table = table_of(texts)
     changed = 0
     for path, text in texts.items():
-        own = {**table, **aliases_of(text, table)}
+        theirs = brought(text, crates)
+        own = {a: b for a, b in {**table, **aliases_of(text, table)}.items() if a not in theirs}
         new = rt(text, own) if path.endswith(".rt") else proof(text, own) if of_function(path) else antt(text, own)
         if new != text:
             changed += 1

@@ -3,7 +3,7 @@ use mathlib.Core.Path.{◌≡◌, refl, ◌∙◌, ap}
 use mathlib.Core.List.{List, [], ◌∷◌, ◌++◌, reverse-reverse}
 use Prim.Native.Nat.{ℕ, ◌+◌, ◌^◌, ◌≤◌, ◌<◌, ◌/◌}
 use native.Mathlib.Omega.{arith}
-use native.Mathlib.Numerals.{add_one}
+use native.Mathlib.Numerals.{add-one}
 use lib.Bits.{bit_and, and_mask}
 use lib.ListN.{set, length, take, drop, get_or, length-reverse}
 use lib.Seq.{drop-cons}
@@ -53,7 +53,7 @@ write_four l at a b c d h =
 -- ---- and read
 
 next : (l : List ℕ) (p q : ℕ) → p < length l → q ≡ p + 1 → drop p l ≡ get_or l p 0 ∷ drop q l
-next l p q h e = rw (e, add_one p) (drop-cons l p 0 h)
+next l p q h e = rw (e, add-one p) (drop-cons l p 0 h)
 
 pub four_at : (l : List ℕ) (at : ℕ) → at + 4 ≤ length l
     → take 4 (drop at l) ≡ get_or l at 0 ∷ (get_or l (at + 1) 0 ∷ (get_or l (at + 2) 0 ∷ (get_or l (at + 3) 0 ∷ [])))

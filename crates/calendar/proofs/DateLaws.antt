@@ -3,7 +3,7 @@ use mathlib.Core.Path.{◌≡◌, refl, sym, ◌∙◌, ap, subst}
 use mathlib.Core.Bool.{Bool, true, false, cond, ◌&&◌, and-eq-true_iff, false≢true}
 use Prim.Native.Nat.{ℕ, zero, suc, ◌+◌, ◌-◌, ◌≤◌, ◌<◌}
 use native.Mathlib.Omega.{arith}
-use native.Mathlib.Numerals.{add_one}
+use native.Mathlib.Numerals.{add-one}
 use lib.Dec.{leb, ltb}
 use lib.IntN.{ℤ, pos, negsuc, nat_abs}
 use borrow.Author.Tests.{ltb-true, ltb-false, leb-true, le-leb}
@@ -195,7 +195,7 @@ back : (m : ℕ) → m + 1 - 1 ≡ m
 back m = omega arith
 
 pub days_left : (n k : ℕ) → YearOf n k → n - years k < year_length (leap (k + 1))
-days_left n k y = rw add_one (omega (arith, y.from, y.to, years_last (suc k) (omega arith), ap years (before k)))
+days_left n k y = rw add-one (omega (arith, y.from, y.to, years_last (suc k) (omega arith), ap years (before k)))
 
 pub arrived : (n k m d : ℕ) → YearOf n k → MonthOf (leap (k + 1)) (n - years k) m d → date (k + 1) m (d + 1) ≡ date_at n
 arrived n k m d y t =

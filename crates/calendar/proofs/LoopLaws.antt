@@ -3,7 +3,7 @@ use mathlib.Core.Path.{◌≡◌, sym, ap}
 use mathlib.Core.Bool.{Bool}
 use Prim.Native.Nat.{ℕ, ◌+◌, ◌-◌, ◌*◌, ◌/◌, ◌≤◌, ◌<◌}
 use native.Mathlib.Omega.{arith}
-use native.Mathlib.Numerals.{add_one}
+use native.Mathlib.Numerals.{add-one}
 use Rattle.calendar.specs.Gregorian.{year_length, month_length, years, months, YearOf, MonthOf}
 use Rattle.calendar.proofs.CountLaws.{about, span, years_grow, months_last, months_none, month_size, twelve}
 
@@ -71,7 +71,7 @@ in_order_lem n k h le =
     omega arith
 
 pub guess_right : (n : ℕ) → n < 3652059 → n < years (n * 400 / 146097 + 1) → YearOf n (n * 400 / 146097)
-guess_right n h l = record { below = in_order_lem n _ h (begins n); from = begins n; to = rw add_one at l }
+guess_right n h l = record { below = in_order_lem n _ h (begins n); from = begins n; to = rw add-one at l }
 
 pub guess_low : (n : ℕ) → n < 3652059 → years (n * 400 / 146097 + 1) ≤ n → YearOf n (n * 400 / 146097 + 1)
-guess_low n h l = record { below = in_order_lem n _ h l; from = l; to = rw add_one at (ends n) }
+guess_low n h l = record { below = in_order_lem n _ h l; from = l; to = rw add-one at (ends n) }

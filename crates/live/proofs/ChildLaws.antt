@@ -1,7 +1,7 @@
 -- A container's values by their numbers and offsets, its texts by its values, and its live children by both.
 use mathlib.Core.Path.{◌≡◌, refl, sym, ◌∙◌, ap}
 use mathlib.Core.Logic.{◌⊎◌, inl, inr}
-use mathlib.Core.Bool.{Bool, true, false, cond, not, ◌||◌, or_true, true≢false, false≢true}
+use mathlib.Core.Bool.{Bool, true, false, cond, not, ◌||◌, or-true, true≢false, false≢true}
 use mathlib.Core.List.{List, [], ◌∷◌, ◌++◌, map, append_assoc, append-nil}
 use mathlib.Core.Option.{Option, none, some}
 use Prim.Native.Nat.{ℕ, zero, suc, ◌+◌, ◌-◌, ◌%◌, ◌≤◌, ◌<◌}
@@ -335,7 +335,7 @@ step_among names (x ∷ es) n s e = go (eqb x.offset n) refl e (step_among names
     go : (t : Bool) → eqb x.offset n ≡ t → cond t (some (field (name_at names x.id))) (field_step names es n) ≡ some s
         → (field_step names es n ≡ some s → among n (offsets_of es) ≡ true) → (eqb n x.offset || among n (offsets_of es)) ≡ true
     go true p e f = rw (eq-eqb n x.offset (sym (eqb-true x.offset n p)))
-    go false p e f = rw (f e) (or_true (eqb n x.offset))
+    go false p e f = rw (f e) (or-true (eqb n x.offset))
 
 pub record Start (starts : List ℕ) (n : ℕ) (ns : List ℕ) : Type 0 where
   pub one : among n starts ≡ true

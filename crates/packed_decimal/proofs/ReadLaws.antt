@@ -1,11 +1,11 @@
 -- What reading finds: the digits passed one by one, the number that they make, and the answers.
 use mathlib.Core.Path.{◌≡◌, refl, sym, ◌∙◌, ap}
-use mathlib.Core.Bool.{Bool, true, false, not, ◌||◌, true≢false, or_assoc, or_false, or_true}
+use mathlib.Core.Bool.{Bool, true, false, not, ◌||◌, true≢false, or_assoc, or-false, or-true}
 use mathlib.Core.List.{List, [], ◌∷◌}
 use mathlib.Core.Option.{some}
 use Prim.Native.Nat.{ℕ, suc, ◌+◌, ◌-◌, ◌*◌, ◌/◌, ◌%◌, ◌^◌, ◌≤◌, ◌<◌, min}
 use native.Mathlib.Omega.{arith}
-use native.Mathlib.Numerals.{add_one}
+use native.Mathlib.Numerals.{add-one}
 use lib.Dec.{ltb, eqb, lit<}
 use lib.IntN.{nat_abs}
 use lib.ListN.{get_or, length, drop, drop_of_length-le}
@@ -30,7 +30,7 @@ unfolding digits
 at_byte bs i h =
     let a : i < length bs = omega arith in
     let b : suc i < length bs = omega arith in
-    rw (add_one i, drop-cons bs i 0 a, drop-cons bs (suc i) 0 b)
+    rw (add-one i, drop-cons bs i 0 a, drop-cons bs (suc i) 0 b)
 
 pub at_last : (bs : List ℕ) (i : ℕ) → i < length bs → length bs - 1 ≤ i → digits (drop i bs) ≡ get_or bs i 0 / 16 ∷ []
 unfolding digits
@@ -66,7 +66,7 @@ unfolding digit_above9
 passed_all {bs} {i} p h a =
     let k = p.inside in
     let e : length bs - 1 ≡ i = omega arith in
-    rw a (rw (at_last bs i k h, ← e, or_false) at p.same)
+    rw a (rw (at_last bs i k h, ← e, or-false) at p.same)
 
 -- ---- the number that the digits make
 
@@ -166,7 +166,7 @@ without_bytes bs h = rw (eq-eqb (length bs) 0 h)
 
 pub over_twenty : (bs : List ℕ) → 20 < length bs → true ≡ not_packed bs
 unfolding not_packed
-over_twenty bs h = rw (lt-ltb 20 (length bs) h, or_true)
+over_twenty bs h = rw (lt-ltb 20 (length bs) h, or-true)
 
 -- what the digits and the sign tell of 1 to 20 bytes
 pub by_halves_alone : (bs : List ℕ) → (length bs ≡ 0 → ⊥) → length bs ≤ 20

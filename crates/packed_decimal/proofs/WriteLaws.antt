@@ -5,7 +5,7 @@ use mathlib.Core.List.{List, [], ◌∷◌, ◌++◌, append_assoc}
 use Prim.Native.Nat.{ℕ, zero, suc, ◌+◌, ◌-◌, ◌*◌, ◌/◌, ◌%◌, ◌^◌, ◌≤◌, ◌<◌}
 use native.Mathlib.Omega.{arith}
 use native.Mathlib.Nat.{pow-suc, zero-add, add-zero, le_trans, lt_of_le_of_lt}
-use native.Mathlib.Numerals.{add_one}
+use native.Mathlib.Numerals.{add-one}
 use lib.Dec.{eqb, ltb, lit<}
 use lib.IntN.{ℤ, pos, negsuc, nat_abs}
 use lib.Signed.{mag, lt_z, non_neg}
@@ -118,7 +118,7 @@ write_before l p n b e h =
     let a : n < length (set l n b) = simp length-set h in
     let k : n < suc n = omega arith in
     rw (zero-add (length p), zero-add, ← e, drop-cons (set l n b) n 0 a, get_or-set_same l n b 0 h, drop-set-lt (suc n) l n b k)
-    (rw (length-append, ← e, add_one, append_assoc))
+    (rw (length-append, ← e, add-one, append_assoc))
 
 -- the pairs of n, written before what stands from place i on, give the target
 pub record Fills (target : List ℕ) (long : ℕ) (l : List ℕ) (n i : ℕ) : Type 0 where

@@ -1,6 +1,6 @@
 -- A call's number, from what the functions that it rests on answer.
 use mathlib.Core.Path.{◌≡◌, refl, sym, ◌∙◌, ap}
-use mathlib.Core.Bool.{Bool, true, false, cond, not, ◌&&◌, ◌||◌, or_false}
+use mathlib.Core.Bool.{Bool, true, false, cond, not, ◌&&◌, ◌||◌, or-false}
 use Prim.Native.Nat.{ℕ, ◌≤◌}
 use mathlib.Core.List.{List}
 use lib.Dec.{eqb, ltb}
@@ -34,8 +34,8 @@ module _ (v : View) (l : Storage) (h : v.inner.entries ≤ room_for (length l.en
   parent_new e q = record { damaged = rw (e, q.misplaced_any, range_within _ _ _ h, none_before l.entries v.parent.entries v.inner.entries) (go v.parent.object _ _ _); place = rw e }
     where
       go : (o m : Bool) (n k : ℕ) → ((o && (m || eqb n 0)) || (not o && eqb k 0)) ≡ ((o && m) || (eqb (cond o n k) 0 || false))
-      go true m n k = or_false (m || eqb n 0) ∙ sym (ap (λ t. m || t) (or_false (eqb n 0)))
-      go false m n k = sym (or_false (eqb k 0))
+      go true m n k = or-false (m || eqb n 0) ∙ sym (ap (λ t. m || t) (or-false (eqb n 0)))
+      go false m n k = sym (or-false (eqb k 0))
 
   -- of a child that replaced another: the parent is an object, has an entry of its id, enough data and, under a mark, fewer undo records
   pub parent_replaced : (id offset : ℕ) → v.inner.parent ≡ Replaced id offset
@@ -105,7 +105,7 @@ close_rows v l s e q =
         → ◌≡◌ {A = ℕ} (cond (a || (m || (f && ((o && n) && w)))) 1 (cond f 2 (cond (not o) 3 0)))
         (cond (eqb (cond f 2 (cond (not o) 3 0)) 0) (cond (a || m) 1 0) (cond (a || (m || ((o && n) && w))) 1 (cond f 2 (cond (not o) 3 0))))
     go true o n a m w = refl
-    go false true n a m w = rw (or_false m)
+    go false true n a m w = rw (or-false m)
     go false false n a m w = refl
 
 -- its answer
@@ -142,14 +142,14 @@ module _ (v : View) (l : Storage) (out : List ℕ) {n : ℕ} (unbroken : broken_
 -- what the code answers
 pub unique_rows : (v : View) (l : Storage) (u : Bool) → cond (broken_of v l) 1 (cond v.counts.finished 2 (cond (not (in_object v)) 3 0)) ≡ number_of v l (uniqueness u)
 unfolding first number_of
-unique_rows v l u = rw (or_false (bad_floor v))
+unique_rows v l u = rw (or-false (bad_floor v))
 
 -- ---- the rows of a mark to set, and of a return
 
 -- what the code answers
 pub mark_rows : (v : View) (l : Storage) → cond (broken_of v l) 1 (cond v.counts.finished 2 (cond (no_mark_free v) 22 0)) ≡ number_of v l set_mark
 unfolding first number_of
-mark_rows v l = rw (or_false (bad_floor v))
+mark_rows v l = rw (or-false (bad_floor v))
 
 -- what it answers after `broken`
 pub return_rows : (v : View) (l : Storage) (j : ℕ) (s : Search) → broken_of v l ≡ false

@@ -1,6 +1,6 @@
 -- The rows of a register, an append and an open, from what is known of a name; and what they are for each of these calls.
 use mathlib.Core.Path.{◌≡◌, refl, sym, ◌∙◌, ap}
-use mathlib.Core.Bool.{Bool, true, false, cond, not, ◌&&◌, ◌||◌, true≢false, and-false, or_false}
+use mathlib.Core.Bool.{Bool, true, false, cond, not, ◌&&◌, ◌||◌, true≢false, and-false, or-false}
 use mathlib.Core.List.{List, [], ◌∷◌, ◌++◌}
 use mathlib.Core.Option.{Option, none, some}
 use Prim.Native.Nat.{ℕ, zero, suc, ◌+◌}
@@ -213,4 +213,4 @@ register_number v l n = go (over_used v l) refl
   where
     go : (o : Bool) → over_used v l ≡ o → first (enter_rows v l (some n) false false 0 0) ≡ number_of v l (register n)
     go true p = rw p
-    go false p = rw (p, or_false (fallen_ends v l), and-false (unique_now v), none_long v l p)
+    go false p = rw (p, or-false (fallen_ends v l), and-false (unique_now v), none_long v l p)

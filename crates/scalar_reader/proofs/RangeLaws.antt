@@ -1,6 +1,6 @@
 -- Ranges by the numbers that bytes stand for.
 use mathlib.Core.Path.{◌≡◌, refl, sym, ◌∙◌, ap}
-use mathlib.Core.Bool.{Bool, true, false, not, cond, ◌&&◌, ◌||◌, and-false, or_false}
+use mathlib.Core.Bool.{Bool, true, false, not, cond, ◌&&◌, ◌||◌, and-false, or-false}
 use mathlib.Core.List.{List, [], ◌∷◌}
 use Prim.Native.Nat.{ℕ, suc, ◌+◌, ◌-◌, ◌*◌, ◌/◌, ◌%◌, ◌^◌, ◌≤◌, ◌<◌}
 use native.Mathlib.Omega.{arith}
@@ -93,7 +93,7 @@ short_read v s m f e q =
     let h = eq-eqb (b % 4) 1 e in
     let l : length v ≡ 1 + b / 4 = rw (ne_eqb (b % 4) 3 (omega arith), ne_eqb (b % 4) 2 (omega arith), h) at (stored_size b v s refl m) in
     let k = length-drop 1 v in
-    rw (h, q, to_the_end 1 v, le-ltb 63 (length (drop 1 v)) (omega arith)) (sym (or_false (not (utf8 (drop 1 v)))))
+    rw (h, q, to_the_end 1 v, le-ltb 63 (length (drop 1 v)) (omega arith)) (sym (or-false (not (utf8 (drop 1 v)))))
 
 -- ---- any other type has no range
 

@@ -1,7 +1,7 @@
 -- "There are 4, 384 and 83,845 of them", by their first bytes; and how long their files are.
 use mathlib.Core.Path.{◌≡◌, refl, ◌∙◌, ap}
 use mathlib.Core.Logic.{inl, inr}
-use mathlib.Core.Bool.{Bool, true, false, cond, ◌&&◌, ◌||◌, or_false, true≢false}
+use mathlib.Core.Bool.{Bool, true, false, cond, ◌&&◌, ◌||◌, or-false, true≢false}
 use mathlib.Core.List.{List, [], ◌∷◌, ◌++◌, map}
 use Prim.Native.Nat.{ℕ, suc, ◌+◌, ◌*◌, ◌≤◌}
 use native.Mathlib.Nat.{mul-suc}
@@ -128,7 +128,7 @@ two t u b = (t && utf8 (b ∷ [])) || u
 row_two : (t u : Bool) → (t ≡ true → u ≡ false) → all (λ b. one (two t u b)) ≡ cond t 128 (cond u 256 0)
 unfolding two
 row_two true true h = absurd (true≢false (h refl))
-row_two true false h = all_same _ _ (λ b. ap one (or_false (utf8 (b ∷ [])) ∙ text_one b)) ∙ count_low
+row_two true false h = all_same _ _ (λ b. ap one (or-false (utf8 (b ∷ [])) ∙ text_one b)) ∙ count_low
 row_two false true h = count_all
 row_two false false h = count_none
 
@@ -169,7 +169,7 @@ unfolding three
 row_three true true v h k = absurd (true≢false (h refl))
 row_three true false true h k = absurd (true≢false (k refl))
 row_three true false false h k =
-    all_same _ _ (λ b. all_same _ _ (λ c. ap one (or_false (utf8 (b ∷ (c ∷ [])) || false) ∙ or_false (utf8 (b ∷ (c ∷ []))))) ∙ text_row b) ∙ count_text
+    all_same _ _ (λ b. all_same _ _ (λ c. ap one (or-false (utf8 (b ∷ (c ∷ [])) || false) ∙ or-false (utf8 (b ∷ (c ∷ []))))) ∙ text_row b) ∙ count_text
 row_three false true v h k = all_same _ _ (λ b. count_all) ∙ count_square
 row_three false false true h k = all_same _ _ zero_row ∙ count_zero
 row_three false false false h k = all_same _ _ (λ b. count_none) ∙ count_none

@@ -1,6 +1,6 @@
 -- Well-formed texts of one and of two bytes.
 use mathlib.Core.Path.{◌≡◌, refl, ◌∙◌, ap}
-use mathlib.Core.Bool.{Bool, true, false, cond, ◌&&◌, and-false, and_true}
+use mathlib.Core.Bool.{Bool, true, false, cond, ◌&&◌, and-false, and-true}
 use mathlib.Core.List.{List, [], ◌∷◌}
 use mathlib.Core.Option.{Option, none, some}
 use Prim.Native.Nat.{ℕ, suc, ◌<◌}
@@ -74,7 +74,7 @@ text_one b = rest_lead b [] ∙ (ap (λ x. rest_of x []) (follow_first b) ∙ go
 
 second : (c : ℕ) → rest (0x80 ‥ 0xBF ∷ []) (c ∷ []) ≡ within (0x80 ‥ 0xBF) c
 unfolding rest
-second c = and_true (within (0x80 ‥ 0xBF) c)
+second c = and-true (within (0x80 ‥ 0xBF) c)
 
 -- two bytes below 80, or C2 to DF and 80 to BF
 pub text_two : (b c : ℕ) → utf8 (b ∷ (c ∷ [])) ≡ cond (leb b 0x7F) (leb c 0x7F) (within (0xC2 ‥ 0xDF) b && within (0x80 ‥ 0xBF) c)

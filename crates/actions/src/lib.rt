@@ -20,6 +20,8 @@
 // uniqueness mark and of marks the container. The calls over the whole record are in the crate `builder`, those over state words in `ffi`.
 // Derived from `ParentState`, `ListState` and `ObjectState` of parquet-variant 60.1.0, src/builder.rs, src/builder/list.rs and
 // src/builder/object.rs (see NOTICE), as are the modules here. Changed: written in Rattle, over counts and lent slices.
+#![tactic(auto)]
+
 mod append;
 mod dictionary;
 mod enter;

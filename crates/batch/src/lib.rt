@@ -1,5 +1,7 @@
 // One file for many records: each a dictionary and a value, one behind the other, in a lent buffer.
 // No function demands anything of its caller, and none judges what a record holds.
+#![tactic(auto)]
+
 mod numbers;
 mod reading;
 mod writing;

@@ -19,6 +19,8 @@
 // and src/builder/object.rs. Changed: written in Rattle; the nested `&mut` builders are one record with 64 containers, passed and
 // given back by value over a lent table of marks and five lent slices; `Drop` is the call `rollback`; every call is total and answers with
 // a number. Marks are new.
+#![tactic(auto)]
+
 mod calls;
 mod view;
 

@@ -18,6 +18,8 @@
 // Derived from the `&mut self` methods of `VariantBuilder`, `ListBuilder` and `ObjectBuilder` of parquet-variant 60.1.0,
 // src/builder.rs, src/builder/list.rs and src/builder/object.rs. Changed: written in Rattle; each call takes the builder record by
 // `&mut`, copies it, makes the call by value and stores the record that came back.
+#![tactic(auto)]
+
 mod bridge;
 mod lending;
 mod thin;

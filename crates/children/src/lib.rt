@@ -1,5 +1,7 @@
 // A value's live children (document 02, A11): a list's elements and an object's fields, by their numbers as the header has them. No function demands
 // anything of its caller.
+#![tactic(auto)]
+
 ghost use Rattle.std.specs.Prelude.{◌≡◌, [], ◌<◌, length};
 ghost use Rattle.children.specs.Children.{is_list, is_object, part_at, parts_of};
 

@@ -3,6 +3,8 @@
 // The lent storage (value bytes, name bytes, name ends, entries of two numbers) has room for this scan and no more. No mark is set, so that
 // no undo record is taken: none is lent.
 // The file `stdout` was not made by this program but by a model of document 01 written apart from this code.
+#![tactic(auto)]
+
 use builder::{
     Answer, Called, FinishAnswer, append_bytes, append_value, close, finish, new, new_list,
     new_object,

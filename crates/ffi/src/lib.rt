@@ -10,6 +10,8 @@
 // A call answers 0, or document 01's number and then leaves the words, the table and the slices as they were. Its contract demands nothing
 // of the caller. What a proof cannot see is the caller's: that the words, the table and the slices are valid for the call and do not
 // overlap. A slice is passed as a pointer and a length.
+#![tactic(auto)]
+
 mod batch_file;
 mod calls;
 mod dates;

@@ -1,4 +1,6 @@
 // Headers of lists and objects, read from any bytes (document 02, A6). No public function demands anything of its caller.
+#![tactic(auto)]
+
 mod lists;
 mod objects;
 mod parts;

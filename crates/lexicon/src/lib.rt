@@ -1,5 +1,7 @@
 // A dictionary read (document 02, A6): whether bytes are one, and the names in them by their ids. Nothing is copied, and no function
 // demands anything of its caller.
+#![tactic(auto)]
+
 mod names;
 mod reading;
 

@@ -18,6 +18,8 @@
 // Derived from `ListBuilder` of parquet-variant 60.1.0, src/builder/list.rs.
 // Changed: written in Rattle; a list keeps no offsets (document 02, A8): closing walks the data, measuring each value by its first
 // bytes, shifts it up in its lent buffer and writes the header before it; no public function demands anything of its caller.
+#![tactic(auto)]
+
 mod close;
 mod starts;
 

@@ -1,4 +1,6 @@
 // The table of marks, which is lent beside the builder's record: seven numbers for each of 16 marks of each of 64 containers.
+#![tactic(auto)]
+
 ghost use Rattle.std.specs.Prelude.{◌≡◌, cond, ◌-◌, ◌≤◌, min, length};
 ghost use Rattle.semantics.specs.Record.{falling, mark_at, mark_at_start, marks_fit, marks_of, no_mark, not_above, slot_of};
 ghost use Rattle.semantics.specs.Step.{put_mark};

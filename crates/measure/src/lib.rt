@@ -1,5 +1,7 @@
 // Values measured by their first bytes and stored lengths (document 02, A8): how long the value is that bytes begin with, and whether
 // bytes are so many values, end to end; and a stored number. No public function demands anything of its caller.
+#![tactic(auto)]
+
 mod length;
 mod walk;
 

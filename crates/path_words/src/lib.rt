@@ -1,4 +1,6 @@
 // The path to a place of a value, written in words (document 02, A12). No public function demands anything of its caller.
+#![tactic(auto)]
+
 mod descent;
 mod sizes;
 mod writing;

@@ -1,5 +1,7 @@
 // Text and bytes on standard output, for the programs here. What is written no contract can say; these say that what is lent stays as
 // it is.
+#![tactic(auto)]
+
 ghost use Rattle.std.specs.Prelude.{◌≡◌};
 
 use libc::STDOUT_FILENO;

@@ -1,5 +1,7 @@
 // Dictionary and value read (document 02, A6): whether bytes are a pair of the grammar, and what stands in them. Nothing is copied, and no
 // function demands anything of its caller.
+#![tactic(auto)]
+
 mod fields;
 mod read;
 mod validate;

@@ -1,5 +1,7 @@
 // The reader's calls for other languages (document 02, A6 and A11 to A13): slices lent, numbers told. No call demands anything of its caller but that what
 // is lent is valid and does not overlap, which is outside the proof. What a call does not tell stays as it was.
+#![tactic(auto)]
+
 ghost use Rattle.std.specs.Prelude.{◌≡◌};
 ghost use Rattle.encoding.specs.Rows.{first};
 ghost use Rattle.grammar.specs.Tests.{pair_rows};

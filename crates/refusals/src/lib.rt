@@ -1,5 +1,7 @@
 // The rows of document 01's table of refused calls, decided over what a call sees of the record and over the lent slices.
 // Nothing is written here; the calls are in the crates `builder` and `ffi`.
+#![tactic(auto)]
+
 mod lookup;
 mod numbers;
 mod view;

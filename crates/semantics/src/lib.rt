@@ -18,6 +18,8 @@
 // The builder's record. Its calls are in the crate `builder`; what they mean is in specs/, and the theorems in proofs/.
 // Derived from the records `VariantBuilder`, `ParentState`, `ListState` and `ObjectState` of parquet-variant 60.1.0, src/builder.rs,
 // src/builder/list.rs and src/builder/object.rs (see NOTICE). Changed: written in Rattle, one record with 64 containers.
+#![tactic(auto)]
+
 ghost use Rattle.std.specs.Prelude.{◌≡◌};
 ghost use Rattle.semantics.specs.Record.{good_floor, no_container};
 ghost use Rattle.semantics.specs.Run.{fresh_counts};

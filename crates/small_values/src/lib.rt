@@ -1,4 +1,6 @@
 // All the small values (document 02, A13), as one batch file. No public function demands anything of its caller.
+#![tactic(auto)]
+
 mod writing;
 
 pub use writing::write_small_values;

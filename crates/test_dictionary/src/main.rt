@@ -3,6 +3,8 @@
 // The file `stdout` was not made by this program. The same names were registered, or given to fields of an object that was
 // rolled back where the list says "cut", and finished, in a model of documents 01 and 02 written apart from this code and in
 // parquet-variant 60.1.0 itself, with equal bytes, but for the sorted mark where names were cut: there the model alone has it so.
+#![tactic(auto)]
+
 use libc::STDOUT_FILENO;
 use metadata::{Finished, MetadataBuilder, add_field_name, finish, from_parts, is_never_used, new};
 

@@ -2,6 +2,8 @@
 // first call refused; names and value bytes then used; the first 16 of these bytes; where the last calls finish, the
 // dictionary. Calls are written as bytes: see `call_of`. Other edges are data of the program `test_replay`.
 // The file `stdout` was not made by this program but by a model of document 01 written apart from this code.
+#![tactic(auto)]
+
 ghost use Rattle.std.specs.Prelude.{◌≤◌};
 
 use builder::new;

@@ -1,5 +1,7 @@
 // The headers of a few lists and objects: for each its size and its first 16 bytes.
 // The file `stdout` was not made by this program but by the model, written apart from this code.
+#![tactic(auto)]
+
 use container::{Closed, Entry, Frame, close_object, put_entry, search_entries};
 use encoding::slices::write_slice;
 use libc::STDOUT_FILENO;

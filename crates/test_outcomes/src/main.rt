@@ -2,6 +2,8 @@
 // The storage and the table of marks are not blank; the storage of the objects with fields has room for the calls and no more. No mark is
 // set, so that no undo record is taken: none is lent.
 // The file `stdout` was typed from document 01, not made by this program.
+#![tactic(auto)]
+
 use builder::{
     Answer, Called, FinishAnswer, append_bytes, append_value, close, finish, new, new_list,
     new_object, rollback,

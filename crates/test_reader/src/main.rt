@@ -1,5 +1,7 @@
 // A few pairs of dictionary and value read, a line each: the number of the refusal, or 0; where the field "a" lies; the first integer, by its
 // stored id and its number, none of them negative. The file `stdout` was not made by this program but by a model of document 02 written apart from this code.
+#![tactic(auto)]
+
 use encoding::signed::mag;
 use libc::STDOUT_FILENO;
 use reader::{FieldPlace, FirstInteger, field, find_field, first_integer, read_pair};

@@ -3,6 +3,8 @@
 // code, some over a record or storage altered between the calls. Standard input is both as tools/replay.py writes them; that script
 // says what its bytes are.
 // Each script is lent as much storage as it names, of one storage for all of them, which is not blank and never cleared.
+#![tactic(auto)]
+
 mod compare;
 mod input;
 mod parse;

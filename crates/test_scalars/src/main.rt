@@ -3,6 +3,8 @@
 // The file `stdout` was not made by this program. Each scalar was appended to a new builder and finished, in a model of
 // document 01 written apart from this code, and, where the Rust's types hold it (78 of the 114), in parquet-variant 60.1.0
 // itself, with equal bytes; both give the dictionary [1, 0, 0] beside each of these values.
+#![tactic(auto)]
+
 use encoding::slices::Placed;
 use value::decimal::{VariantDecimal4, VariantDecimal8, VariantDecimal16};
 use value::scalar::{bytes_size, variant_size, write_bytes, write_uuid, write_variant};

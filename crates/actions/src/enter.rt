@@ -16,7 +16,7 @@ use semantics::{Counts, ParentEntry, View};
 // What a register, an append or an open leaves, up to the entry and the value's bytes: the number; the counts; the innermost container's
 // elements; the entry to be put, in the place of a live name's or as a fresh one; whether the replaced one is recorded, and as which undo
 // record; and the uniqueness mark that a child inherits.
-#[derive(Drop)]
+#[derive(Clone, Copy)]
 pub struct Entered {
     pub counts: Counts,
     pub elements: usize,

@@ -46,7 +46,7 @@ pub use undo::rollback_over;
 pub use unique::unique_over;
 
 // A call's number, 0 where it is carried out; the counts then, and the elements of the container that is innermost then.
-#[derive(Drop)]
+#[derive(Clone, Copy)]
 pub struct Moved {
     pub counts: Counts,
     pub elements: usize,
@@ -54,7 +54,7 @@ pub struct Moved {
 }
 
 // Those of an open, with the elements of the container that was innermost, and the new container. That has no elements yet.
-#[derive(Drop)]
+#[derive(Clone, Copy)]
 pub struct Opened {
     pub counts: Counts,
     pub elements: usize,
@@ -63,14 +63,14 @@ pub struct Opened {
 }
 
 // The number of a call that sets the uniqueness mark, and the innermost container then.
-#[derive(Drop)]
+#[derive(Clone, Copy)]
 pub struct UniqueSet {
     pub container: Container,
     pub number: u8,
 }
 
 // The number of a call that sets a mark, what the mark holds, and the innermost container then.
-#[derive(Drop)]
+#[derive(Clone, Copy)]
 pub struct Marked {
     pub container: Container,
     pub mark: Mark,
@@ -78,7 +78,7 @@ pub struct Marked {
 }
 
 // Those of a return: the number, the counts, and the innermost container with its elements.
-#[derive(Drop)]
+#[derive(Clone, Copy)]
 pub struct Returned {
     pub counts: Counts,
     pub elements: usize,
@@ -87,7 +87,7 @@ pub struct Returned {
 }
 
 // Those of a finish, and the bytes written.
-#[derive(Drop)]
+#[derive(Clone, Copy)]
 pub struct Ended {
     pub counts: Counts,
     pub number: u8,

@@ -10,7 +10,7 @@ use packed_decimal::read::PackedVariant;
 use value::variant::Variant;
 
 // The number is 0 where it has none; else the variant is null, which nothing stores.
-#[derive(Drop)]
+#[derive(Clone, Copy)]
 pub struct Own {
     pub variant: Variant,
     pub number: u8,

@@ -10,7 +10,7 @@ pub use reading::{dictionary_at, record_at, value_at};
 pub use writing::{add, start};
 
 // A record added: the used bytes then.
-#[derive(Drop)]
+#[derive(Clone, Copy)]
 pub enum Added {
     Done(usize),
     Damaged,
@@ -20,7 +20,7 @@ pub enum Added {
 
 // What stands at a place of a file. A whole record's dictionary lies from `dictionary` up to `value`, its value from there up to `next`, where
 // the next record begins; of a bad record only that place is known; a tail has so many bytes.
-#[derive(Drop)]
+#[derive(Clone, Copy)]
 pub enum Step {
     Whole {
         dictionary: usize,

@@ -31,28 +31,28 @@ pub use calls::{
 use semantics::Builder;
 pub use view::{new, with_floor};
 
-#[derive(Drop)]
+#[derive(Clone, Copy)]
 pub enum Answer {
     Done,
     Refused(u8),
 }
 
 // A call's answer, and the builder then.
-#[derive(Drop)]
+#[derive(Clone, Copy)]
 pub struct Called {
     pub answer: Answer,
     pub builder: Builder,
 }
 
 // Finish's answer: the bytes written into its output, or the number.
-#[derive(Drop)]
+#[derive(Clone, Copy)]
 pub enum FinishAnswer {
     Written(usize),
     Refused(u8),
 }
 
 // Finish's answer, and the builder then.
-#[derive(Drop)]
+#[derive(Clone, Copy)]
 pub struct FinishCalled {
     pub answer: FinishAnswer,
     pub builder: Builder,

@@ -34,7 +34,7 @@ pub use thin::{
 use value::variant::{Variant, VariantBytes};
 
 // A call to be made. Its name, bytes, UUID and output stand beside it.
-#[derive(Drop)]
+#[derive(Clone, Copy)]
 pub enum Call {
     AddFieldName,
     AppendValue(Variant),
@@ -53,7 +53,7 @@ pub enum Call {
 }
 
 // A call's number, 0 where it was carried out; the bytes that a finish wrote; the builder then.
-#[derive(Drop)]
+#[derive(Clone, Copy)]
 pub struct LendCalled {
     pub number: u8,
     pub written: usize,

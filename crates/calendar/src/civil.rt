@@ -9,14 +9,14 @@ use encoding::signed::mag;
 use value::variant::Variant;
 
 // The time is in microseconds since midnight.
-#[derive(Drop)]
+#[derive(Clone, Copy)]
 pub enum Civil {
     Date(Date),
     TimestampMicros(Date, i64),
     TimestampNtzMicros(Date, i64),
 }
 
-#[derive(Drop)]
+#[derive(Clone, Copy)]
 pub enum CivilVariant {
     Stored(Variant),
     OutOfCalendar,

@@ -8,20 +8,20 @@ use crate::gregorian::{is_leap, month_length, month_of, months_before, years_bef
 use encoding::signed::mag;
 
 // Any three numbers; `days_of` says whether they are a date.
-#[derive(Drop)]
+#[derive(Clone, Copy)]
 pub struct Date {
     pub year: i64,
     pub month: i64,
     pub day: i64,
 }
 
-#[derive(Drop)]
+#[derive(Clone, Copy)]
 pub enum DaysOf {
     Days(i32),
     OutOfCalendar,
 }
 
-#[derive(Drop)]
+#[derive(Clone, Copy)]
 pub enum DateOf {
     Date(Date),
     OutOfCalendar,

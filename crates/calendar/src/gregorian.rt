@@ -4,7 +4,7 @@ ghost use Rattle.calendar.specs.Gregorian.{leap, month_length, months, year_leng
 ghost use Rattle.calendar.specs.Gregorian.{MonthOf, YearOf};
 
 // A month, and a day of it from 0 on.
-#[derive(Drop)]
+#[derive(Clone, Copy)]
 pub(crate) struct MonthDay {
     pub month: usize,
     pub day: usize,

@@ -9,7 +9,7 @@ pub use names::{name_at, name_below, name_count, same_name};
 pub use reading::read_dictionary;
 
 // How many names a whole dictionary has; or that the bytes are none.
-#[derive(Drop)]
+#[derive(Clone, Copy)]
 pub enum Dictionary {
     Names(usize),
     Bad,

@@ -10,7 +10,7 @@ use crate::wide::{Wide, exceeds, too_large, with_digit};
 use value::decimal::{VariantDecimal4, VariantDecimal8, VariantDecimal16};
 use value::variant::Variant;
 
-#[derive(Drop)]
+#[derive(Clone, Copy)]
 pub enum PackedVariant {
     Stored(Variant),
     NotPacked,

@@ -2,14 +2,14 @@
 ghost use Rattle.std.specs.Prelude.{◌≡◌, ◌||◌, ◌+◌, ◌-◌, ◌*◌, ◌%◌, ◌^◌, ◌<◌, min, eqb, ltb};
 ghost use Rattle.packed_decimal.specs.Wide.{value_of, limit};
 
-#[derive(Drop)]
+#[derive(Clone, Copy)]
 pub(crate) struct Wide {
     pub high: u64,
     pub low: u64,
 }
 
 // What is left without the last digit, and that digit.
-#[derive(Drop)]
+#[derive(Clone, Copy)]
 pub(crate) struct Tenth {
     pub rest: Wide,
     pub digit: u64,

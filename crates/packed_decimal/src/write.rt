@@ -10,7 +10,7 @@ use crate::wide::{Wide, is_zero, over_ten, too_large};
 use encoding::signed::{is_negative, mag};
 use encoding::slices::fits;
 
-#[derive(Drop)]
+#[derive(Clone, Copy)]
 pub enum PackedWritten {
     Written(usize),
     OutOfRange,

@@ -8,7 +8,7 @@ mod writing;
 pub use writing::write_path;
 
 // The child that a place is within, and where that starts: a list's element by its number, an object's field by its stored id.
-#[derive(Drop)]
+#[derive(Clone, Copy)]
 pub enum Child {
     Element { number: usize, start: usize },
     Field { id: usize, start: usize },
@@ -16,7 +16,7 @@ pub enum Child {
 }
 
 // How many bytes of words were written; or that they do not fit.
-#[derive(Drop)]
+#[derive(Clone, Copy)]
 pub enum PathWords {
     Written(usize),
     NoRoom,

@@ -10,7 +10,7 @@ pub use fields::{field, find_field, first_integer};
 pub use read::read_pair;
 
 // Where a field's value lies in the value's bytes; that there is no such field; or 19 or 20.
-#[derive(Drop)]
+#[derive(Clone, Copy)]
 pub enum FieldPlace {
     Part { start: usize, end: usize },
     Missing,
@@ -18,7 +18,7 @@ pub enum FieldPlace {
 }
 
 // The id and number of the first field that is an integer; that there is none; or 19 or 20.
-#[derive(Drop)]
+#[derive(Clone, Copy)]
 pub enum FirstInteger {
     Found { id: usize, number: i64 },
     Missing,

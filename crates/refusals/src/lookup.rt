@@ -11,7 +11,7 @@ use metadata::{FieldName, MetadataBuilder, field_name, num_field_names};
 use semantics::View;
 
 // A look-up's number, 0 where the name has an id; the id, and whether it is a new one.
-#[derive(Drop)]
+#[derive(Clone, Copy)]
 pub(crate) struct Known {
     pub id: usize,
     pub number: u8,
@@ -19,7 +19,7 @@ pub(crate) struct Known {
 }
 
 // What is known of a name: its number (0, 1, 9 or 12), and its field.
-#[derive(Drop)]
+#[derive(Clone, Copy)]
 pub(crate) struct Named {
     pub field: Field,
     pub number: u8,

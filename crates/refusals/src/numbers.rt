@@ -326,7 +326,7 @@ fn undo_full(v: View, live: bool, undo: &[usize]) -> bool
 
 // For a child that is not at the top level: is its parent damaged for it, and where is the parent's entry of its id. A list has no
 // entries, but elements, the child among them.
-#[derive(Drop)]
+#[derive(Clone, Copy)]
 struct Parent {
     place: usize,
     damaged: bool,

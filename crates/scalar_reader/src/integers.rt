@@ -5,7 +5,7 @@ ghost use Rattle.scalar_reader.specs.Integers.{integer_in};
 
 use crate::numbers::number_from;
 
-#[derive(Drop)]
+#[derive(Clone, Copy)]
 pub enum Integer {
     Number(i64),
     Other,

@@ -27,14 +27,14 @@ ghost use Rattle.semantics.specs.Run.{fresh_counts};
 use metadata::MetadataBuilder;
 
 // How a container's entry in its parent came about, read when the container is rolled back.
-#[derive(Drop)]
+#[derive(Clone, Copy)]
 pub enum ParentEntry {
     New,
     Replaced { id: usize, offset: usize },
 }
 
 // An open container. The first five are its starting marks: the used counts at its opening. The last is how many marks are set in it.
-#[derive(Drop)]
+#[derive(Clone, Copy)]
 pub struct Container {
     pub value: usize,
     pub names: usize,
@@ -48,7 +48,7 @@ pub struct Container {
 }
 
 // A mark that is set: the used counts, the elements of the list that it is set in, and the uniqueness mark there, as they were then.
-#[derive(Drop)]
+#[derive(Clone, Copy)]
 pub struct Mark {
     pub value: usize,
     pub names: usize,
@@ -61,7 +61,7 @@ pub struct Mark {
 
 // The used counts, the open containers' number, the dictionary's record, the uniqueness mark at the top, whether a finish was accepted, and
 // the floor: how many bytes offsets, ids and dictionary numbers take at least.
-#[derive(Drop)]
+#[derive(Clone, Copy)]
 pub struct Counts {
     pub value: usize,
     pub entries: usize,
@@ -75,7 +75,7 @@ pub struct Counts {
 
 // Beside each container its elements: how many values a list holds, a child open in it among them; of an object free. The marks that are set
 // stand in a table of their own, which is lent beside the record.
-#[derive(Drop)]
+#[derive(Clone, Copy)]
 pub struct Builder {
     pub containers: [Container; 64],
     pub elements: [usize; 64],
@@ -85,7 +85,7 @@ pub struct Builder {
 // What a call sees of the record: the counts; the innermost open container and its elements; its parent and the parent's elements, the
 // innermost among them; and whether at most 64 are open, no starting mark falls from one of them to the next, no list with a child open
 // in it counts more than it can hold, and the marks set in each are at most 16 and in order.
-#[derive(Drop)]
+#[derive(Clone, Copy)]
 pub struct View {
     pub counts: Counts,
     pub inner: Container,

@@ -6,7 +6,7 @@ mod writing;
 pub use writing::write_small_values;
 
 // How many bytes were written; or that the length is none of 1, 2 and 3; or that they do not fit.
-#[derive(Drop)]
+#[derive(Clone, Copy)]
 pub enum SmallValues {
     Written(usize),
     BadLength,

@@ -1,0 +1,10 @@
+use Prim.Native.Nat.{◌-◌}
+use Rattle.metadata.specs.Names.{below}
+use Rattle.metadata.proofs.NameLaws.{Belows}
+use Rattle.metadata.proofs.names.below.Given as goal
+
+abbrev pub invariant-loop-i : goal.invariant-loop-i
+invariant-loop-i l = Belows (below l.a l.b) l.a l.b l.i
+
+abbrev pub decreases-loop-i : goal.decreases-loop-i
+decreases-loop-i l = l.n - l.i

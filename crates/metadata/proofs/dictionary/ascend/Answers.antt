@@ -2,7 +2,6 @@
 use borrow.Author.Tests.{not-true, not-false}
 use native.Mathlib.Omega.{arith}
 use mathlib.Core.Path.{sym, ◌∙◌}
-use Prim.Native.Nat.{◌-◌}
 use Rattle.metadata.specs.Names.{names_of}
 use Rattle.metadata.proofs.BytesLaws.{length_names}
 use Rattle.metadata.proofs.FinishLaws.{ascends_start, ascends_none, ascends_again, ascends_fall, ascends_end}

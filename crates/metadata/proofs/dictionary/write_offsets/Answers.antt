@@ -1,11 +1,10 @@
 -- The ends still to be written, written where the loop stands, give the whole row.
 use native.Mathlib.Omega.{arith}
-use Prim.Native.Nat.{◌-◌}
 use Rattle.metadata.proofs.FinishLaws.{offsets_start, offsets_room, offsets_again, offsets_end}
 use Rattle.metadata.proofs.dictionary.write_offsets.Goals as goal
 
 pub loop-i-init : goal.loop-i-init
-loop-i-init c = let p = c.requires in offsets_start _ _ _ _ _ p.0 p.1
+loop-i-init c = offsets_start _ _ _ _ _ c.requires.n_in_bounds c.requires.n_bound
 
 pub overflow_add-at : goal.overflow_add-at
 overflow_add-at c =

@@ -12,4 +12,4 @@ returns-then-ends-id c = name_none _ _ _ _ (omega arith)
 
 pub returns : goal.returns
 returns c =
-    c.part.ensures ∙ (rw c.before.before.start_of_lem.ensures (name_held _ _ _ _ c.if-m-id.false c.if-ends-id.false))
+    c.part.ensures ∙ (rw c.start_of-start.ensures (name_held _ _ _ _ c.if-m-id.false c.if-ends-id.false))

@@ -1,12 +1,12 @@
 -- Undo records: replaying, and the loop over them from the newest down, each a search and at most one number set.
-use mathlib.Core.Path.{◌≡◌, refl, sym, ◌∙◌, ap}
+use mathlib.Core.Path.{◌≡◌, refl, sym, ◌∙◌, ap, subst}
 use mathlib.Core.Logic.{inl, ◌≢◌}
-use mathlib.Core.Bool.{Bool, true, false, cond, ◌&&◌}
+use mathlib.Core.Bool.{Bool, true, false, cond}
 use mathlib.Core.List.{List, [], ◌∷◌, ◌++◌}
 use Prim.Native.Nat.{ℕ, zero, suc, ◌+◌, ◌-◌, ◌*◌, ◌≤◌, ◌<◌, min}
 use native.Mathlib.Nat.{add-zero}
 use native.Mathlib.Omega.{arith}
-use lib.Dec.{eqb, leb, ltb}
+use lib.Dec.{eqb, ltb}
 use lib.ListN.{get_or, length, length-set, set}
 use lib.Seq.{get_or-set_other, get_or-set_same}
 use borrow.Author.Tests.{ltb-true, ltb-false, le-ltb, lt-ltb, le-leb, lt-leb}
@@ -76,13 +76,15 @@ entries_restored u l k (suc n) h r = go (eqb (get_or l (2 * k) 0) u.id) refl h (
         let a : 2 * k ≢ 2 * k + 1 = (λ q. omega arith) in
         let b : 2 * k + 1 < length l = omega arith in
         let q = offset_other l k o (k + 1) n (inl (omega arith)) in
-        rw (add-zero, q, get_or-set_other l (2 * k + 1) (2 * k) o 0 a, get_or-set_same l (2 * k + 1) o 0 b)
+        subst (λ i. entries_of (set l (2 * i + 1) o) k (suc n) ≡ record { id = get_or l (2 * k) 0; offset = o } ∷ entries_of l (k + 1) n) (sym (add-zero k))
+        (rw (q, get_or-set_other l (2 * k + 1) (2 * k) o 0 a, get_or-set_same l (2 * k + 1) o 0 b))
     go false p h f =
         let a : 2 * k ≢ 2 * (k + 1 + s) + 1 = (λ q. omega arith) in
         let b : 2 * k + 1 ≢ 2 * (k + 1 + s) + 1 = (λ q. omega arith) in
         let e : k + (1 + s) ≡ k + 1 + s = omega arith in
         let j = 2 * (k + 1 + s) + 1 in
-        rw (e, f (omega arith) (omega arith), get_or-set_other l j (2 * k) o 0 a, get_or-set_other l j (2 * k + 1) o 0 b)
+        subst (λ i. entries_of (set l (2 * i + 1) o) k (suc n) ≡ entry_at l k ∷ restore u (entries_of l (k + 1) n)) (sym e)
+        (rw (f (omega arith) (omega arith), get_or-set_other l j (2 * k) o 0 a, get_or-set_other l j (2 * k + 1) o 0 b))
 
 -- ---- one record undone among n entries from entry k on
 

@@ -1,0 +1,14 @@
+-- Both numbers are written where there is room for the entry, and nothing elsewhere.
+use native.Mathlib.Omega.{arith}
+use lib.ListN.{length-set}
+use Rattle.container.proofs.EntryWalk.{notes_done, notes_none}
+use Rattle.container.proofs.entries.put_entry.Goals as goal
+
+pub returns-then-k-entries : goal.returns-then-k-entries
+returns-then-k-entries c = notes_done _ _ _ c.if-k-entries.true
+
+pub returns : goal.returns
+returns c = notes_none _ _ _ c.if-k-entries.false
+
+pub bounds-entries-q : goal.bounds-entries-q
+bounds-entries-q c = simp length-set (omega arith)

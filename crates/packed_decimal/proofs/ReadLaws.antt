@@ -13,7 +13,6 @@ use lib.Seq.{drop-cons}
 use borrow.Author.Tests.{ltb-true, ltb-false, lt-ltb, le-ltb, eqb-false, eq-eqb, ne_eqb, not-false}
 use Rattle.value.specs.declared.variant.Variant.{Variant}
 use Rattle.encoding.specs.Rows.{first}
-use Rattle.encoding.specs.Signed.{whole}
 use Rattle.packed_decimal.specs.declared.wide.Wide.{Wide}
 use Rattle.packed_decimal.specs.Wide.{value_of, limit}
 use Rattle.packed_decimal.specs.PackedDecimal.{digits, digit_above9, continued, magnitude, not_packed, packed_value, packed_variant}

@@ -1,6 +1,6 @@
 -- What is stored: a magnitude with its sign, its halves, and the smallest decimal that holds it.
 use mathlib.Core.Path.{◌≡◌, refl, sym, ◌∙◌, ap, subst}
-use mathlib.Core.Bool.{Bool, true, false, not, ◌&&◌, false≢true}
+use mathlib.Core.Bool.{Bool, true, false, ◌&&◌, false≢true}
 use Prim.Native.Nat.{ℕ, zero, suc, ◌+◌, ◌-◌, ◌*◌, ◌/◌, ◌%◌, ◌^◌, ◌≤◌, ◌<◌}
 use native.Mathlib.Omega.{arith}
 use lib.Dec.{ltb}
@@ -15,8 +15,7 @@ use Rattle.encoding.specs.Signed.{whole}
 use Rattle.encoding.proofs.SignedLaws.{whole_natural, whole_negative}
 use Rattle.packed_decimal.specs.declared.wide.Wide.{Wide}
 use Rattle.packed_decimal.specs.Wide.{value_of}
-use Rattle.packed_decimal.specs.PackedDecimal.{magnitude}
-use Rattle.packed_decimal.specs.PackedDecimal.{in_halves, sign, signed, smallest}
+use Rattle.packed_decimal.specs.PackedDecimal.{in_halves, signed, smallest}
 
 -- ---- a magnitude with a sign
 

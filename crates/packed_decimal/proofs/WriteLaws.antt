@@ -11,7 +11,7 @@ use lib.IntN.{ℤ, pos, negsuc, nat_abs}
 use lib.Signed.{mag, lt_z, non_neg}
 use lib.ListN.{length, set, length-append, length-set}
 use lib.Seq.{drop-cons, drop-set-lt, get_or-set_same}
-use borrow.Author.Tests.{ltb-false, eqb-true, eqb-false, not-true, not-false}
+use borrow.Author.Tests.{ltb-false, eqb-true, eqb-false}
 use mir.Syntax.{w64}
 use mir.Val.{SFits, of_z, to_z}
 use Rattle.encoding.specs.Rows.{first}
@@ -82,11 +82,11 @@ no_pairs n h = go (digit_pairs n) h
 
 -- ---- counted
 
-pub not_zero : {t : Bool} (n : ℕ) → t ≡ eqb n 0 → not t ≡ true → 0 < n
-not_zero {t} n e h = let z = eqb-false n 0 (sym e ∙ not-true t h) in omega arith
+pub not_zero : {t : Bool} (n : ℕ) → t ≡ eqb n 0 → t ≡ false → 0 < n
+not_zero {t} n e h = let z = eqb-false n 0 (sym e ∙ h) in omega arith
 
-pub zero_left : {t : Bool} (n : ℕ) → t ≡ eqb n 0 → not t ≡ false → n ≡ 0
-zero_left {t} n e h = eqb-true n 0 (sym e ∙ not-false t h)
+pub zero_left : {t : Bool} (n : ℕ) → t ≡ eqb n 0 → t ≡ true → n ≡ 0
+zero_left {t} n e h = eqb-true n 0 (sym e ∙ h)
 
 -- the pairs of n are still to be counted
 pub record Counts (total n count : ℕ) : Type 0 where
@@ -229,20 +229,20 @@ module _ {z : ℤ} {scale rest digit count : ℕ} {out : List ℕ} {r : Bool} (w
   row_fourteen : not (fits 0 (length (packed_bytes z)) (length out)) ≡ not r
   row_fourteen = rw (← form_size, ← w.test)
 
-  pub no_room_back : not r ≡ true → WritesPacked z scale out NoRoom out
+  pub no_room_back : r ≡ false → WritesPacked z scale out NoRoom out
   unfolding first
   no_room_back g =
       let a = w.formed.clear in
-      let b = row_fourteen ∙ g in
+      let b = row_fourteen ∙ ap not g in
       record { number = rw (a, b); size = rw (a, b); bytes = rw (a, b) }
 
-  pub place : not r ≡ false → count < length out
-  place g = let h = fits_within 0 (count + 1) (length out) w.test (not-false r g) in omega arith
+  pub place : r ≡ true → count < length out
+  place g = let h = fits_within 0 (count + 1) (length out) w.test g in omega arith
 
-  pub written_back : {b : ℕ} {after : List ℕ} → not r ≡ false → b ≡ byte_of digit (sign_of z)
+  pub written_back : {b : ℕ} {after : List ℕ} → r ≡ true → b ≡ byte_of digit (sign_of z)
       → after ≡ write 0 (digit_pairs rest ++ (b ∷ [])) out → WritesPacked z scale out (Written (count + 1)) after
   unfolding first
   written_back g k j =
       let a = w.formed.clear in
-      let b = row_fourteen ∙ g in
+      let b = row_fourteen ∙ ap not g in
       record { number = rw (a, b); size = rw (a, b) form_size; bytes = rw (a, b, form w.formed, ← k) j }

@@ -24,7 +24,7 @@ use Rattle.semantics.proofs.TreeLaws.{HeldItems, encode_grows}
 use Rattle.semantics.proofs.HistoryLaws.{Extends, extends_more, HeldName, Named, HeldTop, Chained, FormedLevels, inner_object, with_extends, with_held, chained_grows}
 use Rattle.semantics.proofs.Machine.{note_in, link_in, note, link_of, undo, record_of, marks_at, logged, unwound, first_of, rest_of, one_more, less_of, one_less, header_of}
 use Rattle.semantics.proofs.LayerLaws.{Layer, layer_grows, layer_enter, layer_close, layer_header, live_item, record_count, undone, undo_note}
-use Rattle.semantics.proofs.MarkLaws.{Stand, stand_of, Start, Since, since_same, since_names, Marked, Marks, marks_lengths, marks_later, marks_enter}
+use Rattle.semantics.proofs.MarkLaws.{Stand, stand_of, Start, since_same, since_names, Marked, Marks, marks_lengths, marks_later, marks_enter}
 
 -- what the machine uses, the elements of its containers and the marks set in them, and the ledger's tallies
 pub record Used : Type 0 where

@@ -1,12 +1,12 @@
 -- The marks set in one container: each beside its copy in the history and its tally in the ledger, and each behind the next
 -- later one, the latest behind the container as it is.
 use mathlib.Core.Path.{◌≡◌, refl, sym, ◌∙◌, ap}
-use mathlib.Core.Bool.{Bool, true, false, cond, ◌&&◌}
+use mathlib.Core.Bool.{Bool, true, false, cond}
 use mathlib.Core.List.{List, [], ◌∷◌, ◌++◌, append_assoc, append-nil}
-use mathlib.Core.Option.{Option, none, some}
-use Prim.Native.Nat.{ℕ, zero, suc, ◌+◌, ◌-◌, ◌≤◌}
+use mathlib.Core.Option.{Option}
+use Prim.Native.Nat.{ℕ, zero, suc, ◌+◌, ◌≤◌}
 use native.Mathlib.Omega.{arith}
-use lib.ListN.{drop, length, length-append}
+use lib.ListN.{drop, length}
 use Rattle.metadata.specs.Names.{Name}
 use Rattle.metadata.specs.Bytes.{joined}
 use Rattle.container.specs.declared.Entry.{Entry}

@@ -16,7 +16,7 @@ use Rattle.encoding.specs.Slices.{counted, fits, write}
 use Rattle.encoding.proofs.SliceLaws.{length_write}
 use Rattle.value.specs.Scalar.{scalar_bytes}
 use Rattle.metadata.specs.declared.MetadataBuilder.{MetadataBuilder}
-use Rattle.metadata.specs.Names.{Name, below, place, field_names, text_size}
+use Rattle.metadata.specs.Names.{Name, place, field_names, text_size}
 use Rattle.metadata.specs.Bytes.{dictionary, dictionary_names, joined, size_of}
 use Rattle.metadata.specs.Calls.{has_room, added}
 use Rattle.metadata.proofs.BytesLaws.{intact_parts, dictionary_size, dictionary_read, size_least}
@@ -37,7 +37,7 @@ use Rattle.semantics.specs.declared.ParentEntry.{ParentEntry}
 use Rattle.semantics.specs.declared.ParentEntry.TheVariants.{New, Replaced}
 use Rattle.semantics.specs.declared.View.{View}
 use Rattle.semantics.specs.Record.{Storage, State, Scalars, Call, register, append, open_in, close, roll_back, uniqueness, set_mark, return_to, finish, scalar_of, table_size, good_floor, no_container, no_mark, countable, chained, slot_of, mark_at, marks_of, mark_at_start, mark_now, marks_hold, view_at, is_open, in_object, in_list, inner_size, inner_data, inner_entries, parent_entries, names_held, unique_now}
-use Rattle.semantics.specs.Damage.{over_used, unchained, bad_floor, fallen_ends, misplaced_inner, misplaced_parent, uncounted, orphaned, replacing, recorded_child, unrecorded, damaged_parent, misread_by, misread, damaged}
+use Rattle.semantics.specs.Damage.{over_used, unchained, bad_floor, fallen_ends, misplaced_inner, misplaced_parent, uncounted, orphaned, replacing, unrecorded, damaged_parent, misread_by, misread, damaged}
 use Rattle.semantics.specs.Table.{scalar_rows, rows, number_of, misnamed, bad_name, id_of, held, live, live_under, names_full, entries_full, recorded, undo_full, too_long as too_long_for, header}
 use Rattle.semantics.specs.Step.{dictionary_with, text_with, ends_with, id_for, entries_with, count_with, former_offset, parent_with, undo_with, undo_count_with, registered, appended, opened, new_container, entries_closed, closed, entries_back, count_back, undo_back, rolled_back, with_marks, put_mark, new_mark, mark_to, entries_returned, returned, finished, dictionary_of, elements_with, elements_back, elements_after, after}
 use Rattle.semantics.specs.Step as step

@@ -128,7 +128,7 @@ pub follows_from : {lent : Lent} {s : State} {a : Account} → Follows lent s a 
     → Follows lent (run s cs) (account_from a s cs)
 unfolding run account_from account_after
 follows_from x [] = x
-follows_from x (c ∷ cs) = follows_from (follows_step x c) cs
+follows_from {s = s} {a = a} x (c ∷ cs) = follows_from {s = (step s c).state} {a = account_after a c (refused s c)} (follows_step x c) cs
 
 -- THE RUN: after every list of calls from a fresh builder.
 pub follows_run : (s : State) (cs : List Call) → Fresh s → Follows (lent_by s.storage) (run s cs) (account_of s cs)
@@ -248,7 +248,7 @@ pub ends : {lent : Lent} {s : State} {a : Account} → Follows lent s a → a.fi
     → Ends s a cs
 unfolding run account_after refused
 ends x f [] e = absurd (true≢false (sym e ∙ (x.represents.stored.finished ∙ (x.linked.finished ∙ f))))
-ends {s = s} {a = a} x f (c ∷ cs) e = go (is_finish c && eqb (step s c).number 0) refl (λ g. ends (follows_step x c) g cs e)
+ends {s = s} {a = a} x f (c ∷ cs) e = go (is_finish c && eqb (step s c).number 0) refl (λ g. ends {s = (step s c).state} {a = account_after a c (refused s c)} (follows_step x c) g cs e)
   where
     twice : (t : Bool) → not (not t) ≡ t
     twice true = refl

@@ -21,7 +21,7 @@ use Rattle.semantics.specs.declared.Container.{Container}
 use Rattle.semantics.specs.declared.Mark.{Mark}
 use Rattle.semantics.specs.Record.{Scalars, Call, register, append, open_in, close, roll_back, uniqueness, set_mark, return_to, finish, scalar_of, good_floor}
 use Rattle.semantics.specs.Table.{scalar_rows}
-use Rattle.semantics.specs.Step.{with_unique, with_marks}
+use Rattle.semantics.specs.Step.{with_unique}
 use Rattle.semantics.specs.Tree.{Tree, scalar, encode}
 use Rattle.semantics.specs.History.{Copy, Level, History, first_marks, with_name, close_level, drop_level, mark_level, brought, return_level, accepted, fed}
 use Rattle.semantics.specs.Ledger.{Lent, Account, Tally, Tallied, start_tally, no_ledger, total, inner_sum, header_size, ledger_after, set_unique, tally_mark, tally_at, tally_return, unique_in, refusal_of, refusal_rows, tallies_entered as summed}

@@ -1,15 +1,15 @@
 -- Document 02, A9: "Calls between a mark and the return to it count as struck out". Whatever was accepted in between, as long as the container
 -- stays open and the mark set, the return brings the history as it was when the mark was set.
 use mathlib.Core.Path.{◌≡◌, refl, sym, ◌∙◌, ap}
-use mathlib.Core.List.{List, [], ◌∷◌, ◌++◌, append_assoc}
+use mathlib.Core.List.{List, [], ◌∷◌, ◌++◌}
 use mathlib.Core.Option.{Option}
-use Prim.Native.Nat.{ℕ, zero, suc, ◌+◌, ◌-◌, ◌≤◌, ◌<◌}
+use Prim.Native.Nat.{ℕ, zero, suc, ◌-◌, ◌≤◌, ◌<◌}
 use native.Mathlib.Omega.{arith}
 use lib.ListN.{drop, length, length-append}
 use lib.Seq.{drop_at}
 use Rattle.metadata.specs.Names.{Name}
 use Rattle.semantics.specs.Record.{Call, register, append, open_in, close, roll_back, uniqueness, set_mark, return_to, finish, scalar_of}
-use Rattle.semantics.specs.Tree.{Tree, scalar, nest, Items, empty}
+use Rattle.semantics.specs.Tree.{Tree, scalar, nest, empty}
 use Rattle.semantics.specs.History.{Copy, Level, holding, History, with_name, entered, enter, close_level, drop_level, mark_level, brought, first_marks, return_level, accepted, accepted_all, Spares, SparesAll}
 
 -- a container of this kind, name and names before its open, with these marks and more behind them

@@ -1,8 +1,8 @@
 -- Document 01's "The book for demand 3": the kept record, fed each call's kind and arguments and whether it was refused,
 -- nothing else.
-use Rattle.std.specs.Prelude.{◌≡◌, Bool, true, false, cond, ◌&&◌, List, [], ◌∷◌, ◌++◌, ℕ, suc, ◌-◌, ◌≤◌, ◌<◌, ltb, drop, length}
+use Rattle.std.specs.Prelude.{◌≡◌, Bool, cond, List, [], ◌∷◌, ◌++◌, ℕ, suc, ◌-◌, ◌≤◌, ◌<◌, ltb, drop, length}
 use Rattle.std.proofs.Math.Option.{Option, none, some}
-use Rattle.metadata.specs.Names.{Name, same, place, below}
+use Rattle.metadata.specs.Names.{Name, same, place}
 use Rattle.semantics.specs.Record.{Call, register, append, open_in, close, roll_back, uniqueness, set_mark, return_to, finish, scalar_of}
 use Rattle.semantics.specs.Tree.{Label, element, live, replaced, Tree, scalar, nest, Items, empty, item}
 

@@ -1,5 +1,5 @@
 -- What a call leaves behind: every list whole.
-use Rattle.std.specs.Prelude.{Bool, true, cond, ◌&&◌, List, [], ℕ, ◌+◌, ◌-◌, ◌*◌, eqb, ltb, length, set}
+use Rattle.std.specs.Prelude.{Bool, true, cond, List, [], ℕ, ◌+◌, ◌-◌, ◌*◌, eqb, ltb, length, set}
 use Rattle.std.proofs.Math.Option.{Option, none, some}
 use Rattle.encoding.specs.Slices.{write}
 use Rattle.value.specs.Scalar.{scalar_bytes}

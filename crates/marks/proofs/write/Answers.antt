@@ -1,0 +1,6 @@
+use Rattle.semantics.specs.Step.{put_mark}
+use Rattle.marks.proofs.write.Goals as goal
+
+pub returns : goal.returns
+unfolding put_mark
+returns c = rw c.word.ensures

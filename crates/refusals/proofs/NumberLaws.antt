@@ -4,10 +4,10 @@ use mathlib.Core.Bool.{Bool, true, false, cond, not, ◌&&◌, ◌||◌, or-fals
 use Prim.Native.Nat.{ℕ, ◌≤◌}
 use mathlib.Core.List.{List}
 use lib.Dec.{eqb, ltb}
-use lib.ListN.{length, take}
+use lib.ListN.{length}
 use borrow.Author.Tests.{eqb-true, eq-eqb, ne_eqb}
 use Rattle.encoding.specs.Rows.{first}
-use Rattle.metadata.specs.Names.{intact, place, field_names}
+use Rattle.metadata.specs.Names.{intact, field_names}
 use Rattle.container.specs.declared.Search.{Search}
 use Rattle.container.specs.Entries.{Searches, room_for}
 use Rattle.measure.specs.Measure.{whole_values}
@@ -15,7 +15,7 @@ use Rattle.semantics.specs.declared.ParentEntry.TheVariants.{New, Replaced}
 use Rattle.semantics.specs.declared.View.{View}
 use Rattle.semantics.specs.Record.{Storage, close, roll_back, uniqueness, set_mark, return_to, is_open, in_object, in_list, inner_size, inner_data, parent_size}
 use Rattle.semantics.specs.Damage.{bad_floor, fallen_ends, misplaced_inner, misplaced_parent, uncounted, damaged_parent, misread}
-use Rattle.semantics.specs.Table.{rows, no_mark_free, not_set, number_of}
+use Rattle.semantics.specs.Table.{no_mark_free, not_set, number_of}
 use Rattle.refusals.specs.declared.numbers.Parent.{Parent}
 use Rattle.refusals.specs.Decide.{ClosesBy, ParentOf, Undoes, broken_of, close_by, finish_by}
 use Rattle.semantics.proofs.ViewLaws.{both}

@@ -15,7 +15,7 @@ use Rattle.metadata.specs.Names.{Name}
 use Rattle.semantics.specs.declared.View.{View}
 use Rattle.semantics.specs.Record.{Storage, open_in, register, unique_now}
 use Rattle.semantics.specs.Damage.{damaged, fallen_ends, misread_by, over_used}
-use Rattle.semantics.specs.Table.{front_rows, back_rows, append_rows, number_of, bad_name, live, misnamed, names_full, second_top, taken, too_long}
+use Rattle.semantics.specs.Table.{front_rows, back_rows, append_rows, number_of, bad_name, misnamed, names_full, second_top, taken, too_long}
 use Rattle.refusals.specs.declared.Field.{Field}
 use Rattle.refusals.specs.declared.Decided.{Decided}
 use Rattle.refusals.specs.declared.lookup.Named.{Named}

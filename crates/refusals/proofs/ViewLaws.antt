@@ -1,7 +1,7 @@
 -- What number 1's part that every call asks (`broken_of`) gives where it holds and where it does not, and the ranges of entries
 -- that there is room for.
 use mathlib.Core.Path.{◌≡◌, refl, sym}
-use mathlib.Core.Bool.{Bool, true, false, cond, not, ◌&&◌, ◌||◌, true≢false}
+use mathlib.Core.Bool.{Bool, true, false, cond, not, ◌||◌, true≢false}
 use mathlib.Core.List.{List}
 use Prim.Native.Nat.{ℕ, suc, ◌+◌, ◌-◌, ◌≤◌, min}
 use native.Mathlib.Omega.{arith}
@@ -14,7 +14,7 @@ use Rattle.metadata.specs.Names.{exceeds, intact, field_names, text_size}
 use Rattle.container.specs.Entries.{entries_of, range_of, room_for, seek}
 use Rattle.container.proofs.EntryLaws.{length_entries, seek_bound}
 use Rattle.semantics.specs.declared.View.{View}
-use Rattle.semantics.specs.Record.{Storage, Call, register, append, open_in, close, roll_back, uniqueness, finish, countable, is_open, in_list, inner_size}
+use Rattle.semantics.specs.Record.{Storage, Call, close, finish, countable, is_open, in_list, inner_size}
 use Rattle.semantics.specs.Damage.{over_used, grown, unchained, bad_floor, fallen_ends, misplaced_inner, misread, damaged}
 use Rattle.semantics.specs.Table.{rows, number_of}
 use Rattle.semantics.proofs.ViewLaws.{both}

@@ -1,19 +1,17 @@
 -- The elements that a call gives back, put where they belong: those of the record after the call.
 use mathlib.Core.Path.{◌≡◌, refl, sym, ◌∙◌, ap}
-use mathlib.Core.Bool.{Bool, true, false, cond, not, ◌&&◌}
+use mathlib.Core.Bool.{Bool, true, false, cond, not}
 use mathlib.Core.List.{List, [], ◌∷◌}
-use mathlib.Core.Option.{Option}
 use Prim.Native.Nat.{ℕ, zero, suc, ◌+◌, ◌-◌, ◌≤◌, ◌<◌}
 use native.Mathlib.Omega.{arith}
 use lib.Dec.{eqb, leb, ltb}
 use lib.ListN.{get_or, length, set}
 use borrow.Author.Tests.{ltb-true, ltb-false, lt-ltb, le-ltb, leb-true, leb-false, le-leb, lt-leb}
-use Rattle.metadata.specs.Names.{Name}
 use Rattle.semantics.specs.declared.ParentEntry.{ParentEntry}
 use Rattle.semantics.specs.declared.ParentEntry.TheVariants.{New, Replaced}
 use Rattle.semantics.specs.declared.Builder.{Builder}
 use Rattle.semantics.specs.declared.View.{View}
-use Rattle.semantics.specs.Record.{Storage, Scalars, Call, register, append, open_in, close, roll_back, uniqueness, set_mark, return_to, finish, no_mark, view_of, inner_elements, parent_elements, in_list, is_open}
+use Rattle.semantics.specs.Record.{Storage, Call, register, append, open_in, close, roll_back, uniqueness, set_mark, return_to, finish, no_mark, view_of, inner_elements, parent_elements, in_list, is_open}
 use Rattle.semantics.specs.Table.{number_of}
 use Rattle.semantics.specs.Step.{appended, carried_out, closed, elements_after, elements_back, elements_with, registered, rolled_back}
 use Rattle.actions.specs.declared.Moved.{Moved}

@@ -8,7 +8,6 @@ use lib.Dec.{ltb}
 use borrow.Author.Tests.{le-leb, leb-true, ltb-false}
 use lib.ListN.{length, take, drop, length-take, length-drop, length-append, take-append-drop}
 use lib.Seq.{drop-drop, take-take, take-append-le, take-append-add, drop-append-le, take-nil, take_at, drop_at}
-use Rattle.batch.specs.declared.Step.TheVariants as step
 use Rattle.batch.specs.Layout.{record_of, big_number}
 use Rattle.batch.specs.Writing.{no_batch}
 use Rattle.batch.specs.Reading.{count_at, present, body_of, size_in, misfit, whole, bad, item_of, Contents, tail_only, item_then, contents_behind}

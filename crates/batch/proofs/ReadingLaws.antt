@@ -1,22 +1,19 @@
 -- Reading: one step by places is one step of the definition.
 use mathlib.Core.Path.{◌≡◌, refl, sym, ◌∙◌, ap}
 use mathlib.Core.Bool.{Bool, true, false, cond, ◌||◌, true≢false}
-use mathlib.Core.List.{List, [], ◌∷◌}
+use mathlib.Core.List.{List, []}
 use Prim.Native.Nat.{ℕ, ◌+◌, ◌-◌, ◌≤◌, ◌<◌, max}
 use native.Mathlib.Omega.{arith}
 use lib.Dec.{ltb}
 use borrow.Author.Tests.{lt-ltb, le-ltb, le-leb, lt-leb, leb-true, ltb-false}
 use lib.ListN.{length, take, drop, length-take, length-drop}
 use lib.Seq.{drop-drop, take-take}
-use denote.Enum.Declared.{tag_of}
-use types.Run.{OneOf, miss}
 use Rattle.encoding.specs.Rows.{first, order, in_order}
 use Rattle.batch.specs.declared.Step.{Step}
 use Rattle.batch.specs.declared.Step.TheVariants.{Whole, Bad, Tail, NoBatch}
 use Rattle.batch.specs.Layout.{big_number}
 use Rattle.batch.specs.Writing.{no_batch}
 use Rattle.batch.specs.Reading.{count_at, present, body_of, size_in, misfit, step_from, step_at, step_number, bad_at, step_rows, read_number, read_rows, dictionary_in, value_in}
-use Rattle.batch.specs.contracts.Step.{the_type}
 
 pub step_in_order : (file : List ℕ) (place : ℕ) → in_order order (step_rows file place) ≡ true
 step_in_order file place = refl
@@ -126,12 +123,9 @@ within file place d v n e = go (no_batch file) e
     go false q = within_from file (max place 1) d v n q
 
 -- the other steps name no parts
-abbrev others : List ℕ
-others = 1 ∷ (2 ∷ (3 ∷ []))
-
-pub no_parts : (file : List ℕ) (s : Step) → OneOf others (tag_of the_type s)
+pub no_parts : (file : List ℕ) (s : Step) → ((d v n : ℕ) → s ≡ Whole d v n → ⊥)
     → (◌≡◌ {A = List ℕ} [] (dictionary_in file s)) × (◌≡◌ {A = List ℕ} [] (value_in file s))
-no_parts file (Whole d v n) h = absurd (miss others 0 tt h)
+no_parts file (Whole d v n) h = absurd (h d v n refl)
 no_parts file (Bad n) h = (refl, refl)
 no_parts file (Tail n) h = (refl, refl)
 no_parts file NoBatch h = (refl, refl)

@@ -38,8 +38,10 @@ returns-then-file-ne1 c =
 pub write_record-requires : goal.write_record-requires
 write_record-requires c =
     let a = c.args in
+    let r =
     room_there a.file.now a.used (record_of a.dictionary.now a.value.now)
-    c.if-file-used.false c.has_room.ensures c.if-has_room.true
+    c.if-file-used.false c.has_room.ensures c.if-has_room.true in
+    record { value_bound = r.0; value_in_bounds = r.1 }
 
 pub overflow_add-result-then-has_room : goal.overflow_add-result-then-has_room
 overflow_add-result-then-has_room c = omega (arith, room (goal.at.overflow_add-result-then-has_room c).Then-has_room)

@@ -1,20 +1,19 @@
 -- A reading is unique, the test decides whether there is one, and what a finish writes has one.
 use mathlib.Core.Path.{◌≡◌, refl, sym, ◌∙◌, ap}
-use mathlib.Core.Logic.{◌↔◌}
 use mathlib.Core.Bool.{Bool, true, false, cond, not, ◌&&◌, ◌||◌, and-eq-true_iff, false≢true}
 use mathlib.Core.List.{List, [], ◌∷◌}
-use Prim.Native.Nat.{ℕ, ◌+◌, ◌*◌, ◌^◌, ◌/◌, ◌%◌, ◌≤◌, ◌<◌, max}
+use Prim.Native.Nat.{ℕ, ◌+◌, ◌^◌, ◌/◌, ◌%◌, ◌≤◌, ◌<◌, max}
 use native.Mathlib.Omega.{arith}
 use lib.Dec.{eqb, leb, ltb}
 use lib.ListN.{length, get_or, length-append}
-use borrow.Author.Tests.{ltb-true, lt-ltb, leb-true, le-leb, eq-eqb, ne_eqb, eqb-true}
+use borrow.Author.Tests.{ltb-true, lt-ltb, leb-true, le-leb, eq-eqb, ne_eqb}
 use Rattle.encoding.specs.Rows.{order, in_order, first}
 use Rattle.encoding.specs.Slices.{counted}
 use Rattle.encoding.specs.Width.{width_at}
 use Rattle.encoding.proofs.PackedLaws.{Below}
 use Rattle.encoding.proofs.WidthLaws.{width_at_low, width_at_high, width_at_holds}
 use Rattle.metadata.specs.declared.MetadataBuilder.{MetadataBuilder}
-use Rattle.metadata.specs.Names.{Name, names_of, intact, same, ascending, sorted}
+use Rattle.metadata.specs.Names.{Name, names_of, intact, ascending, sorted}
 use Rattle.metadata.specs.Bytes.{joined, ends_from, first_byte, laid_out, dictionary, size_of, dictionary_names}
 use Rattle.metadata.specs.Calls.{finishes}
 use Rattle.metadata.proofs.BytesLaws.{first_width, laid_out_read, ends_below, dictionary_size, length_names, length_joined_names, size_least}

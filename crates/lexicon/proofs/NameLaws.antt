@@ -1,18 +1,17 @@
 -- For the code: names by their ids, and the walk over the ends.
 use mathlib.Core.Path.{◌≡◌, refl, sym, ◌∙◌, ap}
-use mathlib.Core.Bool.{Bool, true, false, ◌&&◌, and-false, false≢true}
+use mathlib.Core.Bool.{Bool, true, false, ◌&&◌, and-false}
 use mathlib.Core.List.{List, [], ◌∷◌}
-use Prim.Native.Nat.{ℕ, zero, suc, ◌+◌, ◌-◌, ◌*◌, ◌^◌, ◌/◌, ◌%◌, ◌≤◌, ◌<◌, min}
+use Prim.Native.Nat.{ℕ, zero, suc, ◌+◌, ◌-◌, ◌*◌, ◌≤◌, ◌<◌, min}
 use native.Mathlib.Nat.{mul-add, mul-suc, mul-zero, mul-le-mul_right}
 use native.Mathlib.Omega.{arith}
 use lib.Dec.{eqb, leb}
 use lib.ListN.{length, take, drop, get_or, length-drop, get_or-eq_default}
 use lib.Seq.{drop-drop, take_all}
 use borrow.Author.Tests.{le-leb, lt-leb}
-use Rattle.encoding.specs.Packed.{number}
 use Rattle.encoding.specs.Utf8.{utf8}
 use Rattle.measure.specs.Measure.{number_at, Numbered}
-use Rattle.metadata.specs.Names.{Name, cuts, ascending, sorted}
+use Rattle.metadata.specs.Names.{Name, ascending, sorted}
 use Rattle.metadata.specs.Bytes.{numbers, dictionary_names}
 use Rattle.metadata.proofs.BytesLaws.{risen_low}
 use Rattle.metadata.proofs.NameLaws.{cut_at}

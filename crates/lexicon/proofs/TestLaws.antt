@@ -8,7 +8,7 @@ use native.Mathlib.Omega.{arith}
 use lib.Dec.{eqb, leb}
 use lib.ListN.{length, take, drop, get_or, length-append, length-drop, take-append-drop}
 use lib.Seq.{drop-drop, take_all}
-use borrow.Author.Tests.{leb-true, le-leb, eqb-true, eq-eqb}
+use borrow.Author.Tests.{le-leb, eqb-true, eq-eqb}
 use Rattle.encoding.specs.Packed.{le, les, number}
 use Rattle.encoding.specs.Utf8.{utf8}
 use Rattle.encoding.proofs.PackedLaws.{Below}
@@ -19,7 +19,7 @@ use Rattle.metadata.proofs.BytesLaws.{behind_first, layout_count, layout_zero, l
 use Rattle.lexicon.specs.declared.Dictionary.TheVariants.{Names, Bad}
 use Rattle.lexicon.specs.Dictionary.{each_utf8, stored_numbers, most_bytes, ReadsNames, width_in, mark_in, is_dictionary, read_dictionary, good_names}
 use Rattle.lexicon.proofs.ByteLaws.{below_drop, le_at, les_at, small_at, length_numbers, numbers_below}
-use Rattle.lexicon.proofs.DictionaryLaws.{both, with_both, below_each, Held, held_parts, reads_width, reads_mark, reads_names, reads_is, is_reads}
+use Rattle.lexicon.proofs.DictionaryLaws.{both, with_both, below_each, held_parts, reads_width, reads_mark, reads_names, reads_is, is_reads}
 
 -- ---- names between ends that rise
 

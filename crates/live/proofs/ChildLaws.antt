@@ -1,5 +1,5 @@
 -- A container's values by their numbers and offsets, its texts by its values, and its live children by both.
-use mathlib.Core.Path.{◌≡◌, refl, sym, ◌∙◌, ap}
+use mathlib.Core.Path.{◌≡◌, refl, sym, ◌∙◌, ap, subst}
 use mathlib.Core.Logic.{◌⊎◌, inl, inr}
 use mathlib.Core.Bool.{Bool, true, false, cond, not, ◌||◌, or-true, true≢false, false≢true}
 use mathlib.Core.List.{List, [], ◌∷◌, ◌++◌, map, append_assoc, append-nil}
@@ -170,7 +170,7 @@ start_stands zero i at (grammar.more u ts) l = (u, inl (omega arith, refl, refl)
 start_stands (suc k) i at (grammar.more u ts) l =
     let r = start_stands k (suc i) (at + length (layout u)) ts (omega arith) in
     let z : i + suc k ≡ suc i + k = omega arith in
-    (r.0, inr (rw z r.1))
+    (r.0, inr (subst (λ x. Stands x (get_or (starts_from (at + length (layout u)) (layouts ts)) k 0) r.0 (suc i) (at + length (layout u)) ts) (sym z) r.1))
 
 -- ---- where the data begins, by the header
 
@@ -273,7 +273,7 @@ element_stands names zero i at (grammar.more t ts) l e = (at, t, inl (omega arit
 element_stands names (suc j) i at (grammar.more t ts) l e =
     let r = element_stands names j (suc i) (at + length (layout t)) ts l e in
     let z : i + suc j ≡ suc i + j = omega arith in
-    (r.0, r.1, inr (rw z r.2), r.3)
+    (r.0, r.1, inr (subst (λ x. Stands x r.0 r.1 (suc i) (at + length (layout t)) ts) (sym z) r.2), r.3)
 
 pub stands_element : (names : List Name) (k n : ℕ) (t : Shape) (i at : ℕ) (ts : Shapes) → Stands k n t i at ts → element_at (k - i) (live_elements names ts) ≡ some (live_of names t)
 unfolding element_at live_of

@@ -1,0 +1,10 @@
+use Rattle.refusals.specs.Decide.{name_of}
+use Rattle.builder.proofs.CallLaws.{does_moved}
+use Rattle.semantics.specs.Record.{append, civil, storage_of}
+use Rattle.builder.proofs.calls.append_civil.Goals as goal
+
+pub returns : goal.returns
+returns c =
+    let a = c.args in
+    let l = (storage_of a.value.now a.text.now a.ends.now a.entries.now a.undo.now) in
+    does_moved a.b a.marks.now l (append (name_of a.named a.name.now) (civil a.x)) tt c.view_of-v.ensures c.append_civil_over-r.ensures c.called.ensures

@@ -1,0 +1,6 @@
+use Rattle.builder.specs.Calls.{fresh_of}
+use Rattle.builder.proofs.view.fresh.Goals as goal
+
+pub returns : goal.returns
+unfolding fresh_of
+returns c = rw (c.no_container-e.ensures, c.fresh_counts-c.ensures)

@@ -13,7 +13,7 @@ use Rattle.builder.specs.declared.Answer.{Answer}
 use Rattle.builder.specs.declared.FinishAnswer.{FinishAnswer}
 use Rattle.builder.specs.Calls.{bytes_written, finish_number, state, Chain, a_call, a_finish}
 use Rattle.builder_mut.specs.Calls.{DoesThin, FinishesThin}
-use Rattle.builder_mut.proofs.BridgeLaws.{thin_does, thin_finishes}
+use Rattle.builder_mut.proofs.ThinLaws.{thin_does, thin_finishes}
 
 module _ {s u : State} {b : Builder} {ms : List ℕ} {after : Storage} {cs : List Call} {d : List ℕ} where
   pub thin_call : {c : Call} {a : Answer} → is_finish c ≡ false → DoesThin a b ms after s c → Chain (state b ms after) cs u d → Chain s (c ∷ cs) u d

@@ -1,6 +1,4 @@
--- The walk of a thin call, and what `lend` makes of it.
-pub mod Lent
+-- What a thin call says beside the call by value, and what `lend` makes of it.
 pub mod ThinLaws
-pub mod BridgeLaws
 pub mod LendLaws
 pub mod ChainLaws

@@ -17,7 +17,6 @@ use Rattle.value.specs.Scalar.{ill_formed, scalar_bytes, stored_bytes, stored_va
 use Rattle.metadata.specs.Names.{Name}
 use Rattle.semantics.specs.declared.Builder.{Builder}
 use Rattle.semantics.specs.declared.Container.{Container}
-use Rattle.semantics.specs.declared.Counts.{Counts}
 use Rattle.semantics.specs.declared.Mark.{Mark}
 use Rattle.semantics.specs.declared.ParentEntry.{ParentEntry}
 use Rattle.semantics.specs.declared.View.{View}
@@ -32,12 +31,11 @@ use Rattle.semantics.proofs.ViewLaws.{both}
 use Rattle.refusals.proofs.ViewLaws.{neither}
 use Rattle.actions.specs.declared.Moved.{Moved}
 use Rattle.actions.specs.declared.Marked.{Marked}
-use Rattle.actions.specs.declared.Opened.{Opened}
 use Rattle.actions.specs.declared.Returned.{Returned}
 use Rattle.actions.specs.declared.UniqueSet.{UniqueSet}
 use Rattle.actions.specs.declared.Ended.{Ended}
 use Rattle.actions.specs.declared.enter.Entered.{Entered}
-use Rattle.actions.specs.Actions.{EntersBy, Leaves, Opens, Returns, SetsMark, SetsUnique, StoredAs, Ends, child_of, elements_put, entries_put, parent_put, undo_put}
+use Rattle.actions.specs.Actions.{EntersBy, Leaves, Returns, SetsMark, SetsUnique, StoredAs, Ends, child_of, elements_put, entries_put, parent_put, undo_put}
 use Rattle.actions.proofs.EnterLaws.{enter_clears}
 use Rattle.actions.proofs.AppendLaws.{append_refused, append_rows_lem, append_stays, append_writes, stored_stays, stored_writes}
 use Rattle.actions.proofs.MarkLaws.{return_reachable}

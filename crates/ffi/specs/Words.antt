@@ -1,5 +1,5 @@
 -- The state words: 777 numbers, and the builder that they mean. Any words mean one: a flag is "not 0".
-use Rattle.std.specs.Prelude.{◌≡◌, Bool, false, cond, not, List, [], ◌∷◌, ℕ, zero, suc, ◌+◌, ◌-◌, ◌*◌, eqb, ltb, get_or, set}
+use Rattle.std.specs.Prelude.{◌≡◌, Bool, cond, not, List, [], ◌∷◌, ℕ, zero, suc, ◌+◌, ◌-◌, ◌*◌, eqb, ltb, get_or, set}
 use Rattle.encoding.specs.Rows.{first}
 use Rattle.metadata.specs.Calls.{from_parts}
 use Rattle.semantics.specs.declared.Builder.{Builder}

@@ -9,8 +9,6 @@ use lib.IntN.{ℤ}
 use lib.ListN.{length, take, drop, get_or, length-drop, drop_of_length-le}
 use lib.Seq.{drop-cons}
 use borrow.Author.Tests.{leb-true, leb-false, lt-leb, le-leb}
-use denote.Enum.Declared.{tag_of}
-use types.Run.{OneOf, miss}
 use Rattle.metadata.specs.Names.{Name, same}
 use Rattle.container.specs.Sort.{name_at}
 use Rattle.measure.specs.Measure.{measured}
@@ -29,13 +27,12 @@ use Rattle.scalar_reader.specs.declared.integers.Integer.{Integer}
 use Rattle.scalar_reader.specs.declared.integers.Integer.TheVariants.{Number, Other}
 use Rattle.scalar_reader.specs.Integers.{integer_in}
 use Rattle.reader.specs.Answers.{Inside, part_of, part_at, fieldBy, integerBy, orNext}
-use Rattle.reader.specs.contracts.FieldPlace.{the_type}
 
 -- ---- the part at a place
 
-pub no_part : (v : List ℕ) (p : FieldPlace) → OneOf (1 ∷ 2 ∷ []) (tag_of the_type p) → [] ≡ part_of v p
+pub no_part : (v : List ℕ) (p : FieldPlace) → ((s e : ℕ) → p ≡ answer.Part s e → ⊥) → [] ≡ part_of v p
 unfolding part_of
-no_part v (answer.Part s e) h = absurd (miss (1 ∷ 2 ∷ []) 0 tt h)
+no_part v (answer.Part s e) h = absurd (h s e refl)
 no_part v answer.Missing h = refl
 no_part v (answer.Refused n) h = refl
 

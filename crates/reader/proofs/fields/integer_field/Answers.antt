@@ -1,0 +1,32 @@
+-- The fields that are left decide as all of them do.
+use native.Mathlib.Omega.{arith}
+use mathlib.Core.Path.{refl}
+use Prim.Native.Nat.{◌<◌}
+use mir.Syntax.{w64}
+use mir.ValLaws.{to_z-of_z}
+use Rattle.grammar.specs.Tests.{object_count}
+use Rattle.reader.proofs.FieldLaws.{hunts_found, hunts_again, hunts_none}
+use Rattle.reader.proofs.fields.integer_field.Goals as goal
+use Rattle.reader.proofs.fields.integer_field.Goals.{In-loop-k}
+
+-- field k is there
+there : (c : In-loop-k) → c.loop-k.k < object_count c.args.v.now
+there c = omega (arith, c.count_of_fields-count.ensures.0)
+
+pub part_at-place-requires : goal.part_at-place-requires
+part_at-place-requires c = c.requires _ (there (goal.at.part_at-place-requires c).In-loop-k)
+
+pub loop-k-preserved : goal.loop-k-preserved
+loop-k-preserved c =
+    hunts_again c.loop-k.invariant (there (goal.at.loop-k-preserved c).In-loop-k) c.stored_id-id.ensures.0 c.part_at-place.ensures c.field.ensures c.integer_of.ensures c.in_default.is
+
+pub returns-in-loop-k : goal.returns-in-loop-k
+returns-in-loop-k c =
+    rw (to_z-of_z w64 c.in-Number.number (record { sfits = omega arith }))
+    (hunts_found c.loop-k.invariant (there (goal.at.returns-in-loop-k c).In-loop-k) c.stored_id-id.ensures.0 c.part_at-place.ensures c.field.ensures c.integer_of.ensures c.in-Number.is)
+
+pub returns : goal.returns
+returns c = hunts_none c.loop-k.invariant (omega (arith, c.count_of_fields-count.ensures.0))
+
+pub loop-k-init : goal.loop-k-init
+loop-k-init c = record { rest = refl }

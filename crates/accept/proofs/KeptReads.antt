@@ -238,7 +238,7 @@ from_readable : {lent : Lent} {s : State} {a : Account} → Follows lent s a →
     → ReadableHistory (history_from a.history s cs)
 unfolding history_from account_after
 from_readable x [] r = r
-from_readable {s = s} {a = a} x (c ∷ cs) r = from_readable (follows_step x c) cs (fed_readable a.history c (refused s c) (step_admits x c) r)
+from_readable {s = s} {a = a} x (c ∷ cs) r = from_readable {s = (step s c).state} {a = account_after a c (refused s c)} (follows_step x c) cs (fed_readable a.history c (refused s c) (step_admits x c) r)
 
 pub history_readable : (s : State) (cs : List Call) → Fresh s → ReadableHistory (history_of s cs)
 unfolding history_of each_utf8

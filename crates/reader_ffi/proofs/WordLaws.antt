@@ -6,14 +6,10 @@ use borrow.Author.Tests.{ne_eqb}
 use Rattle.reader.specs.declared.FieldPlace.{FieldPlace}
 use Rattle.reader.specs.declared.FirstInteger.{FirstInteger}
 use Rattle.reader.specs.Answers.{FindsField, FindsInteger, placeNumber, integerNumber}
-use Rattle.finder.specs.declared.TextFound.{TextFound}
-use Rattle.finder.specs.Finds.{FindsText, found_number}
-use Rattle.one_form.specs.declared.OneForm.{OneForm}
-use Rattle.one_form.specs.Answers.{Canonizes, formNumber}
 use Rattle.small_values.specs.declared.SmallValues.{SmallValues}
 use Rattle.small_values.specs.declared.SmallValues.TheVariants.{Written}
 use Rattle.small_values.specs.Small.{WritesSmall, small_number}
-use Rattle.reader_ffi.specs.Words.{FieldWords, IntegerWords, FormWords, field_over, integer_over, found_over, form_over, TellsField, TellsForm, TellsFound, TellsInteger, TellsSmall}
+use Rattle.reader_ffi.specs.Words.{FieldWords, IntegerWords, field_over, integer_over, TellsField, TellsInteger, TellsSmall}
 
 pub tells_field : {d v name : List ℕ} {before after : FieldWords} {n : ℕ} {p q : FieldPlace} → FindsField d v name p → p ≡ q → placeNumber q ≡ n → field_over before q ≡ after
     → TellsField n d v name before after
@@ -22,15 +18,6 @@ tells_field {q = q} f e k w = record { answer = q; finds = rw e at f; number = s
 pub tells_integer : {d v : List ℕ} {before after : IntegerWords} {n : ℕ} {p q : FirstInteger} → FindsInteger d v p → p ≡ q → integerNumber q ≡ n → integer_over before q ≡ after
     → TellsInteger n d v before after
 tells_integer {q = q} f e k w = record { answer = q; finds = rw e at f; answered = sym k; words = sym w }
-
-pub tells_found : {d v wanted out after : List ℕ} {before written n : ℕ} {p q : TextFound} → FindsText d v wanted out p after → p ≡ q → found_number q ≡ n
-    → found_over before q ≡ written → TellsFound n d v wanted out after before written
-tells_found {q = q} f e k w = record { answer = q; finds = rw e at f; number = sym k; length = sym w }
-
-pub tells_form : {d v value dictionary valueAfter dictionaryAfter : List ℕ} {before after : FormWords} {n : ℕ} {p q : OneForm}
-    → Canonizes d v value dictionary p valueAfter dictionaryAfter → p ≡ q → formNumber q ≡ n → form_over before q ≡ after
-    → TellsForm n d v value dictionary valueAfter dictionaryAfter before after
-tells_form {q = q} f e k w = record { answer = q; writes = rw e at f; number = sym k; words = sym w }
 
 module _ {size : ℕ} {out after : List ℕ} {r : SmallValues} (w : WritesSmall size out r after) where
   pub tells_small : {n before : ℕ} → r ≡ Written n → TellsSmall 0 size out after before n

@@ -7,12 +7,6 @@ use Rattle.reader.specs.declared.FieldPlace.TheVariants as place
 use Rattle.reader.specs.declared.FirstInteger.{FirstInteger}
 use Rattle.reader.specs.declared.FirstInteger.TheVariants as integer
 use Rattle.reader.specs.Answers.{FindsField, FindsInteger, placeNumber, integerNumber}
-use Rattle.finder.specs.declared.TextFound.{TextFound}
-use Rattle.finder.specs.declared.TextFound.TheVariants.{Words, Missing, NoRoom, Refused}
-use Rattle.finder.specs.Finds.{FindsText, found_number}
-use Rattle.one_form.specs.declared.OneForm.{OneForm}
-use Rattle.one_form.specs.declared.OneForm.TheVariants as form
-use Rattle.one_form.specs.Answers.{Canonizes, formNumber}
 use Rattle.small_values.specs.Small.{file_of, small_rows}
 
 -- ---- a field by its name
@@ -57,45 +51,6 @@ pub record TellsInteger (n : ℕ) (d v : List ℕ) (before after : IntegerWords)
   pub finds : FindsInteger d v answer
   pub answered : n ≡ integerNumber answer
   pub words : after ≡ integer_over before answer
-
--- ---- a text and its path
-
--- how many bytes the words have; a refused call leaves it
-abbrev pub found_over : ℕ → TextFound → ℕ
-found_over written (Words n) = n
-found_over written Missing = written
-found_over written NoRoom = written
-found_over written (Refused n) = written
-
--- document 02, A12: the words at the front of the output, as `FindsText` says
-pub record TellsFound (n : ℕ) (d v wanted out after : List ℕ) (before written : ℕ) : Type 0 where
-  pub answer : TextFound
-  pub finds : FindsText d v wanted out answer after
-  pub number : n ≡ found_number answer
-  pub length : written ≡ found_over before answer
-
--- ---- one form
-
--- how many bytes dictionary and value have; a refused call leaves both
-pub record FormWords : Type 0 where
-  pub dictionary : ℕ
-  pub value : ℕ
-
-abbrev pub form_words : ℕ → ℕ → FormWords
-form_words dictionary value = record { dictionary = dictionary; value = value }
-
-abbrev pub form_over : FormWords → OneForm → FormWords
-form_over w (form.Written value dictionary) = form_words dictionary value
-form_over w form.ValueFull = w
-form_over w form.DictionaryFull = w
-form_over w (form.Refused n) = w
-
--- document 02, A11: the new pair at the fronts of its outputs, as `Canonizes` says
-pub record TellsForm (n : ℕ) (d v value dictionary valueAfter dictionaryAfter : List ℕ) (before after : FormWords) : Type 0 where
-  pub answer : OneForm
-  pub writes : Canonizes d v value dictionary answer valueAfter dictionaryAfter
-  pub number : n ≡ formNumber answer
-  pub words : after ≡ form_over before answer
 
 -- ---- all the small values
 

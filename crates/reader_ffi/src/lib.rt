@@ -1,14 +1,12 @@
-// The reader's calls for other languages (document 02, A6 and A11 to A13): slices lent, numbers told. No call demands anything of its caller but that what
+// The reader's calls for other languages (document 02, A6 and A13): slices lent, numbers told. No call demands anything of its caller but that what
 // is lent is valid and does not overlap, which is outside the proof. What a call does not tell stays as it was.
 #![tactic(auto)]
 
 ghost use Rattle.std.specs.Prelude.{◌≡◌};
 ghost use Rattle.encoding.specs.Rows.{first};
 ghost use Rattle.grammar.specs.Tests.{pair_rows};
-ghost use Rattle.reader_ffi.specs.Words.{TellsField, TellsForm, TellsFound, TellsInteger, TellsSmall, field_words, form_words, integer_words};
+ghost use Rattle.reader_ffi.specs.Words.{TellsField, TellsInteger, TellsSmall, field_words, integer_words};
 
-use finder::{TextFound, find_text};
-use one_form::{OneForm, write_one_form};
 use reader::{FieldPlace, FirstInteger, find_field, first_integer, read_pair};
 use small_values::{SmallValues, write_small_values};
 
@@ -78,62 +76,6 @@ pub extern "C" fn variant_first_integer(
             0
         }
         FirstInteger::Refused(n) => n,
-    }
-}
-
-// 19 or 20 as above; then 25 where no live text equals `text`, then 14 where the words of the path to the first one, in order of data, do not fit; else
-// 0, and they stand at the start of `out`, their length in `written`.
-#[unsafe(no_mangle)]
-pub extern "C" fn variant_find(
-    metadata: &[u8],
-    value: &[u8],
-    text: &[u8],
-    out: &mut [u8],
-    written: &mut usize,
-) -> u8
-    ensures { TellsFound result metadata.now value.now text.now out.old out.new
-        written.old written.new }
-{
-    let f = find_text(metadata, value, text, out);
-    match f {
-        TextFound::Words(size) => {
-            *written = size;
-            0
-        }
-        TextFound::Missing => 25,
-        TextFound::NoRoom => 14,
-        TextFound::Refused(n) => n,
-    }
-}
-
-// 19 or 20 as above; then 14 where the value of the one pair for the record's live tree does not fit `new_value`, then 16 where its dictionary does
-// not fit `new_metadata`; else 0, and they stand at the starts of these, their lengths in the two numbers.
-#[unsafe(no_mangle)]
-pub extern "C" fn variant_canonical(
-    metadata: &[u8],
-    value: &[u8],
-    new_metadata: &mut [u8],
-    new_value: &mut [u8],
-    metadata_written: &mut usize,
-    value_written: &mut usize,
-) -> u8
-    ensures { TellsForm result metadata.now value.now new_value.old new_metadata.old
-        new_value.new new_metadata.new (form_words metadata_written.old value_written.old)
-        (form_words metadata_written.new value_written.new) }
-{
-    let f = write_one_form(metadata, value, new_value, new_metadata);
-    match f {
-        OneForm::Written {
-            value: v,
-            dictionary: d,
-        } => {
-            *metadata_written = d;
-            *value_written = v;
-            0
-        }
-        OneForm::ValueFull => 14,
-        OneForm::DictionaryFull => 16,
-        OneForm::Refused(n) => n,
     }
 }
 

@@ -63,7 +63,7 @@ def read(path):
 
 
 def of_function(path):
-    return os.path.basename(path) in ("Proof.antt", "Answers.antt", "Invariants.antt")
+    return os.path.basename(path) in ("Proof.antt", "Answers.antt", "Invariants.antt") and f"{os.sep}proofs{os.sep}" in path
 
 
 def table_of(texts):

@@ -1,6 +1,5 @@
 -- What is still to be copied, written where the loop stands, gives the whole.
 use native.Mathlib.Omega.{arith}
-use Prim.Native.Nat.{◌-◌}
 use Rattle.encoding.proofs.SliceLaws.{copies_start, copies_again, copies_end}
 use Rattle.encoding.proofs.slices.copy.Goals as goal
 

@@ -1,6 +1,5 @@
 -- What is still to be moved, moved up from where the loop stands, gives the whole.
 use native.Mathlib.Omega.{arith}
-use Prim.Native.Nat.{◌-◌}
 use Rattle.encoding.proofs.SliceLaws.{moves_start, moves_again, moves_end}
 use Rattle.encoding.proofs.slices.shift_back_to_front.Goals as goal
 

@@ -1,4 +1,3 @@
-use Prim.Native.Nat.{◌-◌}
 use lib.ListN.{length}
 use Rattle.encoding.specs.Slices.{shift}
 use Rattle.encoding.proofs.SliceLaws.{Moves}

@@ -1,6 +1,5 @@
 -- `is_utf8` decides whether the text is UTF-8: the bytes from `at` on are UTF-8 just where the whole text is.
 use mathlib.Core.Path.{refl, sym, ◌∙◌}
-use Prim.Native.Nat.{◌-◌}
 use native.Mathlib.Omega.{arith}
 use lib.ListN.{drop_of_length-le}
 use Rattle.encoding.specs.Utf8.{rest, utf8}

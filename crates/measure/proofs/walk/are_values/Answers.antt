@@ -16,7 +16,7 @@ pub loop-left-init : goal.loop-left-init
 loop-left-init c = record { rest = refl; low = omega arith }
 
 pub returns-then-room-eq0 : goal.returns-then-room-eq0
-returns-then-room-eq0 c =  walks_out c.loop-left.invariant c.loop-left-test.true c.if-room-eq0.true
+returns-then-room-eq0 c = walks_out c.loop-left.invariant c.loop-left-test.true c.if-room-eq0.true
 
 pub stored_length-m-requires : goal.stored_length-m-requires
 stored_length-m-requires c =

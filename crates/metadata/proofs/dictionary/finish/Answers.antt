@@ -15,7 +15,7 @@ sound c = let i = c.intact in sym i.ensures ∙ not-false i.result c.if-not-inta
 -- where both tests passed
 fitting : (c : Else-counted-size) → let a = c.args in
     Fitting a.floor a.m a.text.now a.ends.now a.out.now c.dictionary_size-size.result
-fitting c =  fits_dictionary _ _ _ _ _ (sound (up-Else-not-intact _ _ _ _ c.before.before.before.before)) _ _ c.dictionary_size-size.ensures c.counted.ensures c.if-counted-size.false
+fitting c = fits_dictionary _ _ _ _ _ (sound (up-Else-not-intact _ _ _ _ c.before.before.before.before)) _ _ c.dictionary_size-size.ensures c.counted.ensures c.if-counted-size.false
 
 pub returns-then-not-intact : goal.returns-then-not-intact
 returns-then-not-intact c =
@@ -23,7 +23,7 @@ returns-then-not-intact c =
     finish_damaged _ _ _ _ _ (sym i.ensures ∙ not-true i.result c.if-not-intact.true-raw)
 
 pub returns-then-counted-size : goal.returns-then-counted-size
-returns-then-counted-size c =  finish_no_room _ _ _ _ _ (sound (goal.at.returns-then-counted-size c).Else-not-intact) _ _ c.dictionary_size-size.ensures c.counted.ensures c.if-counted-size.true
+returns-then-counted-size c = finish_no_room _ _ _ _ _ (sound (goal.at.returns-then-counted-size c).Else-not-intact) _ _ c.dictionary_size-size.ensures c.counted.ensures c.if-counted-size.true
 
 pub returns-then-unused : goal.returns-then-unused
 returns-then-unused c =

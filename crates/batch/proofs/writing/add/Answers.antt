@@ -2,19 +2,18 @@
 use native.Mathlib.Omega.{arith}
 use mathlib.Core.Path.{◌≡◌, refl, ◌∙◌}
 use mathlib.Core.Bool.{false}
-use Prim.Native.Nat.{◌+◌, ◌≤◌}
-use lib.ListN.{length, take}
+use Prim.Native.Nat.{ℕ, ◌+◌, ◌≤◌, ◌<◌}
+use mathlib.Core.List.{List}
+use lib.ListN.{length, take, get_or}
 use Rattle.batch.specs.Layout.{record_of}
 use Rattle.batch.specs.Writing.{no_batch}
 use Rattle.batch.proofs.WritingLaws.{none_used, no_batch_used, other_version, version_one}
 use Rattle.batch.proofs.WritingLaws.{room_there, adds_damaged, adds_none, adds_done, adds_no_room}
 use Rattle.batch.proofs.writing.add.Goals as goal
-use Rattle.batch.proofs.writing.add.Goals.{Else-file-ne1, Then-has_room}
+use Rattle.batch.proofs.writing.add.Goals.{Then-has_room}
 
-version : (c : Else-file-ne1) → let a = c.args in no_batch (take a.used a.file.now) ≡ false
-version c =
-    let a = c.args in
-    no_batch_used a.used a.file.now (omega arith) ∙ version_one a.file.now (omega arith) c.if-file-ne1.false
+version : (used : ℕ) (file : List ℕ) → 0 < used → used ≤ length file → get_or file 0 0 ≡ 1 → no_batch (take used file) ≡ false
+version used file h l e = no_batch_used used file h ∙ version_one file (omega arith) e
 
 room : (c : Then-has_room) → let a = c.args in
     a.used + (8 + (length a.dictionary.now + length a.value.now)) ≤ length a.file.now
@@ -51,10 +50,10 @@ overflow_add-result-then-has_room-2 c = omega (arith, room (goal.at.overflow_add
 
 pub returns-then-has_room : goal.returns-then-has_room
 returns-then-has_room c =
-    adds_done _ _ _ c.if-file-used.false (version (goal.at.returns-then-has_room c).Else-file-ne1)
+    adds_done _ _ _ c.if-file-used.false (version _ _ (omega arith) c.if-file-used.false c.if-file-ne1.false)
     c.has_room.ensures c.if-has_room.true refl c.write_record.ensures
 
 pub returns : goal.returns
 returns c =
     adds_no_room _ _ _ c.if-file-used.false
-    (version (goal.at.returns c).Else-file-ne1) c.has_room.ensures c.if-has_room.false
+    (version _ _ (omega arith) c.if-file-used.false c.if-file-ne1.false) c.has_room.ensures c.if-has_room.false

@@ -9,7 +9,7 @@ use Rattle.encoding.specs.declared.slices.Placed.{Placed}
 use Rattle.encoding.specs.Slices.{counted, write, Writes}
 use Rattle.encoding.proofs.SliceLaws.{length_write, write_write, left_done}
 use Rattle.metadata.specs.Names.{Name}
-use Rattle.live.specs.Words.{field, element, Path, decimal, field_word, bytes_word, element_word, steps_words, words}
+use Rattle.live.specs.Words.{field, element, Path, decimal, field_word, bytes_word, element_word, steps_words}
 use Rattle.path_words.proofs.DigitLaws.{decimal_append}
 
 -- ---- the words of one step

@@ -1,6 +1,6 @@
 // What is stored for a scalar that comes in another form, and its own number.
 ghost use Rattle.std.specs.Prelude.{◌≡◌};
-ghost use Rattle.calendar.specs.Answers.{civilRows, civilVariant};
+ghost use Rattle.calendar.specs.Answers.{civil_rows, civil_variant};
 ghost use Rattle.packed_decimal.specs.PackedDecimal.{packed_variant};
 ghost use Rattle.packed_decimal.specs.Calls.{packed_rows};
 ghost use Rattle.actions.specs.Actions.{own_of};
@@ -17,7 +17,7 @@ pub struct Own {
 }
 
 pub fn civil_own(x: Civil) -> Own
-    ensures { result ≡ own_of (civilRows x) (civilVariant x) }
+    ensures { result ≡ own_of (civil_rows x) (civil_variant x) }
 {
     let s = variant_of(x);
     match s {

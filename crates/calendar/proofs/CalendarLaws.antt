@@ -7,7 +7,7 @@ use lib.IntN.{ℤ, pos, negsuc, nat_abs, ◌-ℤ◌, +ℤ-neg_ℤ_cancel, -ℤ-+
 use Rattle.encoding.specs.Rows.{first, order, in_order}
 use Rattle.value.specs.Decimal.{out_of_range}
 use Rattle.calendar.specs.Gregorian.{leap, month_length, years, months, in_calendar, days_before, day_number, date_at, date_of_day, in_span}
-use Rattle.calendar.specs.Answers.{answer, done, dateRows, dayRows, civilRows, civilVariant}
+use Rattle.calendar.specs.Answers.{answer, done, date_rows, day_rows, civil_rows, civil_variant}
 use Rattle.calendar.specs.declared.date.Date.{Date}
 use Rattle.calendar.specs.declared.civil.Civil.{Civil}
 use Rattle.calendar.specs.declared.civil.Civil.TheVariants as civil
@@ -54,7 +54,7 @@ days_of_date n e =
 
 -- what `days_of` answers of a date
 abbrev Numbered : Date → ℤ → Type 0
-Numbered d n = answer (dateRows d) (day_number d) ≡ done n
+Numbered d n = answer (date_rows d) (day_number d) ≡ done n
 
 pub named_days : Numbered (date 1970 1 1) (pos 0) × Numbered (date 1969 12 31) (negsuc 0)
     × Numbered (date 1 1 1) (negsuc 719161) × Numbered (date 9999 12 31) (pos 2932896)
@@ -63,17 +63,17 @@ named_days = (refl, refl, refl, refl)
 
 -- ---- the table
 
-pub date_order : (d : Date) → in_order order (dateRows d) ≡ true
+pub date_order : (d : Date) → in_order order (date_rows d) ≡ true
 date_order d = refl
 
-pub day_order : (n : ℤ) → in_order order (dayRows n) ≡ true
+pub day_order : (n : ℤ) → in_order order (day_rows n) ≡ true
 day_order n = refl
 
-pub civil_order : (x : Civil) → in_order order (civilRows x) ≡ true
+pub civil_order : (x : Civil) → in_order order (civil_rows x) ≡ true
 civil_order x = refl
 
 -- "in 7's stead": what is stored is never out of range
-pub civil_in_range : (x : Civil) → out_of_range (civilVariant x) ≡ false
+pub civil_in_range : (x : Civil) → out_of_range (civil_variant x) ≡ false
 civil_in_range (civil.Date d) = refl
 civil_in_range (civil.TimestampMicros d time) = refl
 civil_in_range (civil.TimestampNtzMicros d time) = refl

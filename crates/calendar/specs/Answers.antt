@@ -34,40 +34,40 @@ answer rows x = cond (eqb (first rows) 0) (done x) (refused (first rows))
 -- ---- a date to its day number
 
 -- 17, "a date not in the calendar, a year outside the span"
-abbrev pub dateRows : Date → List Row
-dateRows d = row 17 (not (in_calendar d)) ∷ []
+abbrev pub date_rows : Date → List Row
+date_rows d = row 17 (not (in_calendar d)) ∷ []
 
-abbrev pub daysTold : DaysOf → Told ℤ
-daysTold (days.Days n) = done n
-daysTold days.OutOfCalendar = refused 17
+abbrev pub days_told : DaysOf → Told ℤ
+days_told (days.Days n) = done n
+days_told days.OutOfCalendar = refused 17
 
 -- ---- a day number to its date
 
 -- 17, "day numbers outside it on the way back"
-abbrev pub dayRows : ℤ → List Row
-dayRows n = row 17 (not (in_span n)) ∷ []
+abbrev pub day_rows : ℤ → List Row
+day_rows n = row 17 (not (in_span n)) ∷ []
 
-abbrev pub dateTold : DateOf → Told Date
-dateTold (date.Date d) = done d
-dateTold date.OutOfCalendar = refused 17
+abbrev pub date_told : DateOf → Told Date
+date_told (date.Date d) = done d
+date_told date.OutOfCalendar = refused 17
 
 -- ---- a scalar of a date
 
 -- 17's condition for each; "in 7's stead, a time outside 0 to 86,399,999,999 microseconds"
-abbrev pub outOfCalendar : Civil → Bool
-outOfCalendar (civil.Date d) = not (in_calendar d)
-outOfCalendar (civil.TimestampMicros d time) = not (in_calendar d) || beyond_day time
-outOfCalendar (civil.TimestampNtzMicros d time) = not (in_calendar d) || beyond_day time
+abbrev pub out_of_calendar : Civil → Bool
+out_of_calendar (civil.Date d) = not (in_calendar d)
+out_of_calendar (civil.TimestampMicros d time) = not (in_calendar d) || beyond_day time
+out_of_calendar (civil.TimestampNtzMicros d time) = not (in_calendar d) || beyond_day time
 
-abbrev pub civilRows : Civil → List Row
-civilRows x = row 17 (outOfCalendar x) ∷ []
+abbrev pub civil_rows : Civil → List Row
+civil_rows x = row 17 (out_of_calendar x) ∷ []
 
 -- the scalar that is stored, where 17's condition does not hold; else the same sums, which nothing stores
-abbrev pub civilVariant : Civil → Variant
-civilVariant (civil.Date d) = variant.Date (day_number d)
-civilVariant (civil.TimestampMicros d time) = variant.TimestampMicros (timestamp d time)
-civilVariant (civil.TimestampNtzMicros d time) = variant.TimestampNtzMicros (timestamp d time)
+abbrev pub civil_variant : Civil → Variant
+civil_variant (civil.Date d) = variant.Date (day_number d)
+civil_variant (civil.TimestampMicros d time) = variant.TimestampMicros (timestamp d time)
+civil_variant (civil.TimestampNtzMicros d time) = variant.TimestampNtzMicros (timestamp d time)
 
-abbrev pub civilTold : CivilVariant → Told Variant
-civilTold (stored.Stored v) = done v
-civilTold stored.OutOfCalendar = refused 17
+abbrev pub civil_told : CivilVariant → Told Variant
+civil_told (stored.Stored v) = done v
+civil_told stored.OutOfCalendar = refused 17

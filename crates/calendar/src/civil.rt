@@ -2,7 +2,7 @@
 ghost use Rattle.std.specs.Prelude.{◌≡◌, true, false};
 ghost use Rattle.value.specs.Decimal.{beyond_day};
 ghost use Rattle.calendar.specs.Gregorian.{in_calendar, timestamp};
-ghost use Rattle.calendar.specs.Answers.{answer, civilRows, civilTold, civilVariant, outOfCalendar};
+ghost use Rattle.calendar.specs.Answers.{answer, civil_rows, civil_told, civil_variant, out_of_calendar};
 
 use crate::date::{Date, day_number, days_before, in_calendar, within};
 use encoding::signed::mag;
@@ -23,7 +23,7 @@ pub enum CivilVariant {
 }
 
 pub fn variant_of(x: Civil) -> CivilVariant
-    ensures { civilTold result ≡ answer (civilRows x) (civilVariant x) }
+    ensures { civil_told result ≡ answer (civil_rows x) (civil_variant x) }
 {
     if out_of_calendar(x) {
         return CivilVariant::OutOfCalendar;
@@ -33,7 +33,7 @@ pub fn variant_of(x: Civil) -> CivilVariant
 
 // Number 17's condition.
 fn out_of_calendar(x: Civil) -> bool
-    ensures { result ≡ outOfCalendar x }
+    ensures { result ≡ out_of_calendar x }
 {
     match x {
         Civil::Date(date) => !in_calendar(date),
@@ -49,8 +49,8 @@ fn out_of_day(time: i64) -> bool
 }
 
 fn stored(x: Civil) -> Variant
-    requires { outOfCalendar x ≡ false }
-    ensures { result ≡ civilVariant x }
+    requires { out_of_calendar x ≡ false }
+    ensures { result ≡ civil_variant x }
 {
     match x {
         Civil::Date(date) => Variant::Date(day_number(date)),

@@ -2,7 +2,7 @@
 ghost use Rattle.std.specs.Prelude.{◌≡◌, true, ◌<◌};
 ghost use Rattle.calendar.specs.Gregorian.{date_at, date_of_day, day_number, days_before, in_calendar};
 ghost use Rattle.calendar.specs.Gregorian.{within as within_of};
-ghost use Rattle.calendar.specs.Answers.{answer, dateRows, dateTold, dayRows, daysTold};
+ghost use Rattle.calendar.specs.Answers.{answer, date_rows, date_told, day_rows, days_told};
 
 use crate::gregorian::{is_leap, month_length, month_of, months_before, years_before, years_to};
 use encoding::signed::mag;
@@ -29,7 +29,7 @@ pub enum DateOf {
 
 // The day number of a date.
 pub fn days_of(date: Date) -> DaysOf
-    ensures { daysTold result ≡ answer (dateRows date) (day_number date) }
+    ensures { days_told result ≡ answer (date_rows date) (day_number date) }
 {
     if in_calendar(date) {
         return DaysOf::Days(day_number(date));
@@ -39,7 +39,7 @@ pub fn days_of(date: Date) -> DaysOf
 
 // The date of a day number.
 pub fn date_of(days: i64) -> DateOf
-    ensures { dateTold result ≡ answer (dayRows days) (date_of_day days) }
+    ensures { date_told result ≡ answer (day_rows days) (date_of_day days) }
 {
     if within(-719_162, days, 2_932_896) {
         return DateOf::Date(date_at((days + 719_162) as usize));

@@ -11,7 +11,7 @@ use Rattle.encoding.specs.Rows.{first}
 use Rattle.value.specs.declared.variant.Variant.{Variant}
 use Rattle.calendar.specs.declared.date.Date.{Date}
 use Rattle.calendar.specs.Gregorian.{day_number, date_of_day}
-use Rattle.calendar.specs.Answers.{answer, done, refused, dateRows, dayRows}
+use Rattle.calendar.specs.Answers.{answer, done, refused, date_rows, day_rows}
 use Rattle.calendar.proofs.AnswerLaws.{told_done, told_refused_lem}
 use Rattle.semantics.specs.Record.{civil}
 use Rattle.actions.specs.Actions.{StoredAs}
@@ -39,17 +39,17 @@ some_civil code d time {x} {n} low high s = go (eqb code 11) (eqb code 12) refl 
 -- ---- a date to its day number
 
 module _ (d : Date) (was : ℤ) where
-  pub tells_days : (n : ℤ) → done n ≡ answer (dateRows d) (day_number d) → TellsDays 0 d was n
-  tells_days n e = let t = told_done n (dateRows d) (day_number d) e in record { number = sym t.0; days = t.1 }
+  pub tells_days : (n : ℤ) → done n ≡ answer (date_rows d) (day_number d) → TellsDays 0 d was n
+  tells_days n e = let t = told_done n (date_rows d) (day_number d) e in record { number = sym t.0; days = t.1 }
 
-  pub tells_no_days : refused 17 ≡ answer (dateRows d) (day_number d) → TellsDays 17 d was was
-  tells_no_days e = record { number = sym (told_refused_lem 17 (dateRows d) (day_number d) e); days = refl }
+  pub tells_no_days : refused 17 ≡ answer (date_rows d) (day_number d) → TellsDays 17 d was was
+  tells_no_days e = record { number = sym (told_refused_lem 17 (date_rows d) (day_number d) e); days = refl }
 
 -- ---- a day number to its date
 
 module _ (days : ℤ) (was : Date) where
-  pub tells_date : (d : Date) → done d ≡ answer (dayRows days) (date_of_day days) → TellsDate 0 days was (date_of d.year d.month d.day)
-  tells_date d e = let t = told_done d (dayRows days) (date_of_day days) e in record { number = sym t.0; date = t.1 }
+  pub tells_date : (d : Date) → done d ≡ answer (day_rows days) (date_of_day days) → TellsDate 0 days was (date_of d.year d.month d.day)
+  tells_date d e = let t = told_done d (day_rows days) (date_of_day days) e in record { number = sym t.0; date = t.1 }
 
-  pub tells_no_date : refused 17 ≡ answer (dayRows days) (date_of_day days) → TellsDate 17 days was was
-  tells_no_date e = record { number = sym (told_refused_lem 17 (dayRows days) (date_of_day days) e); date = refl }
+  pub tells_no_date : refused 17 ≡ answer (day_rows days) (date_of_day days) → TellsDate 17 days was was
+  tells_no_date e = record { number = sym (told_refused_lem 17 (day_rows days) (date_of_day days) e); date = refl }

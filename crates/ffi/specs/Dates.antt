@@ -5,7 +5,7 @@ use Rattle.calendar.specs.declared.date.Date.{Date}
 use Rattle.calendar.specs.declared.civil.Civil.{Civil}
 use Rattle.calendar.specs.declared.civil.Civil.TheVariants as civils
 use Rattle.calendar.specs.Gregorian.{day_number, date_of_day}
-use Rattle.calendar.specs.Answers.{dateRows, dayRows}
+use Rattle.calendar.specs.Answers.{date_rows, day_rows}
 use Rattle.semantics.specs.Record.{Scalars, fixed, civil}
 use Rattle.ffi.specs.Scalars.{no_scalar}
 
@@ -23,10 +23,10 @@ civil_by code d time =
 
 -- document 02, A2, a date to its day number; a refused call leaves what stood there
 pub record TellsDays (n : ℕ) (d : Date) (before after : ℤ) : Type 0 where
-  pub number : n ≡ first (dateRows d)
+  pub number : n ≡ first (date_rows d)
   pub days : after ≡ cond (eqb n 0) (day_number d) before
 
 -- "The way back, from days to the date"
 pub record TellsDate (n : ℕ) (days : ℤ) (before after : Date) : Type 0 where
-  pub number : n ≡ first (dayRows days)
+  pub number : n ≡ first (day_rows days)
   pub date : after ≡ cond (eqb n 0) (date_of_day days) before

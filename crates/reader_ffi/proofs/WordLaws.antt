@@ -5,17 +5,17 @@ use Prim.Native.Nat.{ℕ}
 use borrow.Author.Tests.{ne_eqb}
 use Rattle.reader.specs.declared.FieldPlace.{FieldPlace}
 use Rattle.reader.specs.declared.FirstInteger.{FirstInteger}
-use Rattle.reader.specs.Answers.{FindsField, FindsInteger, placeNumber, integerNumber}
+use Rattle.reader.specs.Answers.{FindsField, FindsInteger, place_number, integer_number}
 use Rattle.small_values.specs.declared.SmallValues.{SmallValues}
 use Rattle.small_values.specs.declared.SmallValues.TheVariants.{Written}
 use Rattle.small_values.specs.Small.{WritesSmall, small_number}
 use Rattle.reader_ffi.specs.Words.{FieldWords, IntegerWords, field_over, integer_over, TellsField, TellsInteger, TellsSmall}
 
-pub tells_field : {d v name : List ℕ} {before after : FieldWords} {n : ℕ} {p q : FieldPlace} → FindsField d v name p → p ≡ q → placeNumber q ≡ n → field_over before q ≡ after
+pub tells_field : {d v name : List ℕ} {before after : FieldWords} {n : ℕ} {p q : FieldPlace} → FindsField d v name p → p ≡ q → place_number q ≡ n → field_over before q ≡ after
     → TellsField n d v name before after
 tells_field {q = q} f e k w = record { answer = q; finds = rw e at f; number = sym k; words = sym w }
 
-pub tells_integer : {d v : List ℕ} {before after : IntegerWords} {n : ℕ} {p q : FirstInteger} → FindsInteger d v p → p ≡ q → integerNumber q ≡ n → integer_over before q ≡ after
+pub tells_integer : {d v : List ℕ} {before after : IntegerWords} {n : ℕ} {p q : FirstInteger} → FindsInteger d v p → p ≡ q → integer_number q ≡ n → integer_over before q ≡ after
     → TellsInteger n d v before after
 tells_integer {q = q} f e k w = record { answer = q; finds = rw e at f; answered = sym k; words = sym w }
 

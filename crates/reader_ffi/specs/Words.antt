@@ -6,7 +6,7 @@ use Rattle.reader.specs.declared.FieldPlace.{FieldPlace}
 use Rattle.reader.specs.declared.FieldPlace.TheVariants as place
 use Rattle.reader.specs.declared.FirstInteger.{FirstInteger}
 use Rattle.reader.specs.declared.FirstInteger.TheVariants as integer
-use Rattle.reader.specs.Answers.{FindsField, FindsInteger, placeNumber, integerNumber}
+use Rattle.reader.specs.Answers.{FindsField, FindsInteger, place_number, integer_number}
 use Rattle.small_values.specs.Small.{file_of, small_rows}
 
 -- ---- a field by its name
@@ -28,7 +28,7 @@ field_over w (place.Refused n) = w
 pub record TellsField (n : ℕ) (d v name : List ℕ) (before after : FieldWords) : Type 0 where
   pub answer : FieldPlace
   pub finds : FindsField d v name answer
-  pub number : n ≡ placeNumber answer
+  pub number : n ≡ place_number answer
   pub words : after ≡ field_over before answer
 
 -- ---- the first integer
@@ -49,7 +49,7 @@ integer_over w (integer.Refused n) = w
 pub record TellsInteger (n : ℕ) (d v : List ℕ) (before after : IntegerWords) : Type 0 where
   pub answer : FirstInteger
   pub finds : FindsInteger d v answer
-  pub answered : n ≡ integerNumber answer
+  pub answered : n ≡ integer_number answer
   pub words : after ≡ integer_over before answer
 
 -- ---- all the small values

@@ -82,11 +82,11 @@ exact x n h = go (eqb n x) refl
     go false p = other (eqb-false n x p) (leb x n) refl
 
 -- where the first byte b tells x
-pub integer_by : (b x : ℕ) (v : List ℕ) → ((bytes : List ℕ) → value_length (b ∷ bytes) ≡ x) → 0 < x → ltb (b % 4) 2 ≡ true → 0 < length v → get_or v 0 0 ≡ b
+pub integer_by_lem : (b x : ℕ) (v : List ℕ) → ((bytes : List ℕ) → value_length (b ∷ bytes) ≡ x) → 0 < x → ltb (b % 4) 2 ≡ true → 0 < length v → get_or v 0 0 ≡ b
     → cond (eqb (length v) x) (integer_stored (type_of_byte b) (drop 1 v)) Other ≡ integer_in v
 unfolding integer_in measured
-integer_by b x [] f h k s e = absurd (omega arith)
-integer_by b x (a ∷ bytes) f h k s e = rw (e, k, f bytes, exact x (length (a ∷ bytes)) h)
+integer_by_lem b x [] f h k s e = absurd (omega arith)
+integer_by_lem b x (a ∷ bytes) f h k s e = rw (e, k, f bytes, exact x (length (a ∷ bytes)) h)
 
 pub integer_none : (b : ℕ) (v : List ℕ) → get_or v 0 0 ≡ b → (b ≡ 12 → ⊥) → (b ≡ 16 → ⊥) → (b ≡ 20 → ⊥) → (b ≡ 24 → ⊥) → Other ≡ integer_in v
 unfolding integer_in

@@ -16,7 +16,7 @@ use Rattle.value.specs.declared.variant.VariantBytes.TheVariants.{Binary, String
 use Rattle.value.specs.Scalar.{short, scalar_bytes, long, plain, stored_bytes}
 use Rattle.value.proofs.ScalarParse.{stored_whole, uuid_whole, bytes_whole}
 use Rattle.measure.proofs.ValueLaws.{Plain, stored_known, bytes_known, uuid_known}
-use Rattle.calendar.specs.Answers.{civilVariant}
+use Rattle.calendar.specs.Answers.{civil_variant}
 use Rattle.packed_decimal.specs.PackedDecimal.{packed_variant}
 use Rattle.metadata.specs.Names.{Name, same, place}
 use Rattle.metadata.proofs.DictionaryLaws.{same_differs, place_low, place_added, Distinct, distinct_none, distinct_added, distinct_front}
@@ -595,7 +595,7 @@ length_bytes Text bs = length_plain bs
 pub scalar_plain : (v : Scalars) → length (scalar_bytes (scalar_of v)) < 256 ^ 4 → Plain (scalar_of v)
 unfolding scalar_bytes
 scalar_plain (fixed v) h = record { whole = stored_whole v; known = stored_known v }
-scalar_plain (civil x) h = record { whole = stored_whole (civilVariant x); known = stored_known (civilVariant x) }
+scalar_plain (civil x) h = record { whole = stored_whole (civil_variant x); known = stored_known (civil_variant x) }
 scalar_plain (packed scale bs) h = record { whole = stored_whole (packed_variant bs scale); known = stored_known (packed_variant bs scale) }
 scalar_plain (bytes k bs) h = record { whole = bytes_whole k bs (omega (arith, length_bytes k bs)); known = bytes_known k bs }
 scalar_plain (uuid bs) h =

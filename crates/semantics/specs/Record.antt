@@ -5,7 +5,7 @@ use Rattle.value.specs.declared.variant.Variant.{Variant}
 use Rattle.value.specs.declared.variant.VariantBytes.{VariantBytes}
 use Rattle.value.specs.Scalar.{Scalar, stored_variant, stored_bytes, stored_uuid}
 use Rattle.calendar.specs.declared.civil.Civil.{Civil}
-use Rattle.calendar.specs.Answers.{civilVariant}
+use Rattle.calendar.specs.Answers.{civil_variant}
 use Rattle.packed_decimal.specs.PackedDecimal.{packed_variant}
 use Rattle.metadata.specs.Names.{Name, field_names, names_of, text_size}
 use Rattle.container.specs.Entries.{entries_of}
@@ -72,7 +72,7 @@ sixteen bs = take 16 (bs ++ replicate 16 0)
 -- the scalar as stored type and payload
 abbrev pub scalar_of : Scalars → Scalar
 scalar_of (fixed v) = stored_variant v
-scalar_of (civil x) = stored_variant (civilVariant x)
+scalar_of (civil x) = stored_variant (civil_variant x)
 scalar_of (packed scale bs) = stored_variant (packed_variant bs scale)
 scalar_of (bytes k bs) = stored_bytes k bs
 scalar_of (uuid bs) = stored_uuid (sixteen bs)

@@ -6,7 +6,7 @@ use Rattle.encoding.specs.Slices.{counted, fits}
 use Rattle.encoding.specs.Utf8.{utf8}
 use Rattle.value.specs.Decimal.{out_of_range}
 use Rattle.value.specs.Scalar.{ill_formed, scalar_bytes}
-use Rattle.calendar.specs.Answers.{civilRows}
+use Rattle.calendar.specs.Answers.{civil_rows}
 use Rattle.packed_decimal.specs.Calls.{packed_rows}
 use Rattle.metadata.specs.Names.{Name, place, field_names, text_size}
 use Rattle.metadata.specs.Bytes.{size_of}
@@ -34,7 +34,7 @@ second_top v = not (is_open v) && ltb 0 v.counts.value
 -- decimal 18 (A4), "directly before 7", and 7; and 8, "text not UTF-8, or an explicit short text over 63 bytes"
 abbrev pub scalar_rows : Scalars → List Row
 scalar_rows (fixed x) = row 7 (out_of_range x) ∷ []
-scalar_rows (civil x) = civilRows x
+scalar_rows (civil x) = civil_rows x
 scalar_rows (packed scale bs) = packed_rows bs scale
 scalar_rows (bytes k bs) = row 8 (ill_formed k bs) ∷ []
 scalar_rows (uuid bs) = []

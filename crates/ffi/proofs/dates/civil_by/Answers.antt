@@ -3,7 +3,7 @@ use mir.Syntax.{w64}
 use mir.ValLaws.{to_z-of_z}
 use mathlib.Core.Logic.{inl, inr}
 use mathlib.Core.Path.{refl}
-use Rattle.calendar.specs.Answers.{civilVariant}
+use Rattle.calendar.specs.Answers.{civil_variant}
 use Rattle.semantics.specs.Record.{civil}
 use Rattle.actions.proofs.AppendLaws.{own_stored}
 use Rattle.ffi.specs.Dates.{civil_of, date_of}
@@ -17,7 +17,7 @@ returns-in-11-to-13 c =
     let l = c.in-11-to-13.if-code-lt11-own.false in
     let h = c.in-11-to-13.if-code-lt14-own.true in
     let d = date_of a.year a.month a.day in
-    some_civil a.code d a.time (omega arith) (omega arith) (own_stored (civil (civil_of a.code d a.time)) (civilVariant (civil_of a.code d a.time)) refl (rw k at c.civil_own.ensures))
+    some_civil a.code d a.time (omega arith) (omega arith) (own_stored (civil (civil_of a.code d a.time)) (civil_variant (civil_of a.code d a.time)) refl (rw k at c.civil_own.ensures))
 
 pub returns-in_default : goal.returns-in_default
 returns-in_default c = no_civil _ _ _ (inl c.in_default.if-code-lt11-own.true)

@@ -26,7 +26,7 @@ use Rattle.reader.specs.declared.FieldPlace.{FieldPlace}
 use Rattle.reader.specs.declared.FieldPlace.TheVariants as answer
 use Rattle.reader.specs.declared.FirstInteger.{FirstInteger}
 use Rattle.reader.specs.declared.FirstInteger.TheVariants as integer
-use Rattle.reader.specs.Answers.{FindsField, FindsInteger, fieldAmong, fieldIn, placeNumber, integerShape, orNext, integerAmong, integerFirst, integerNumber, part_of, part_at, fieldBy, fieldFound, integerBy, integerFound}
+use Rattle.reader.specs.Answers.{FindsField, FindsInteger, field_among, field_in, placeNumber, integer_shape, or_next, integer_among, integer_first, integerNumber, part_of, part_at, field_by, field_found, integer_by, integer_found}
 
 -- ---- a number, by its bytes
 
@@ -35,11 +35,11 @@ is_part (answer.Part s e) = true
 is_part answer.Missing = false
 is_part (answer.Refused n) = false
 
-integer_shape : (names : List Name) (depth : ℕ) (t : Shape) → Fits names depth t → integer_in (layout t) ≡ integerShape t
+integer_shape_lem : (names : List Name) (depth : ℕ) (t : Shape) → Fits names depth t → integer_in (layout t) ≡ integer_shape t
 unfolding layout
-integer_shape names depth (scalar s) h = integer_scalar s h
-integer_shape names depth (list w big ts) h = integer_other (layout (list w big ts)) (omega (arith, list_first w big ts))
-integer_shape names depth (object w u big es ts) h = integer_other (layout (object w u big es ts)) (omega (arith, object_first w u big es ts))
+integer_shape_lem names depth (scalar s) h = integer_scalar s h
+integer_shape_lem names depth (list w big ts) h = integer_other (layout (list w big ts)) (omega (arith, list_first w big ts))
+integer_shape_lem names depth (object w u big es ts) h = integer_other (layout (object w u big es ts)) (omega (arith, object_first w u big es ts))
 
 -- ---- an object's fields
 
@@ -62,12 +62,12 @@ module _ (names : List Name) (d w u : ℕ) (big : Bool) (fs : List Entry) (ts : 
         let r = there.room in
         rw (le-leb s (s + m) (omega arith), le-leb (s + m) (length v) (omega arith), z) there.part
 
-    integer_found : integer_in (part_of v (part_at v n)) ≡ integerShape (shape_at n 0 ts)
-    integer_found = ap integer_in part_bytes ∙ integer_shape names (d - 1) (shape_at n 0 ts) there.fits
+    integer_found_lem : integer_in (part_of v (part_at v n)) ≡ integer_shape (shape_at n 0 ts)
+    integer_found_lem = ap integer_in part_bytes ∙ integer_shape_lem names (d - 1) (shape_at n 0 ts) there.fits
 
   fields_found : (name : Name) (es : List Entry) → starting (starts_from 0 (layouts ts)) (offsets_of es) ≡ true
-      → fieldBy names name v (ids_of es) (offsets_of es) ≡ fieldAmong names name (object_from v) ts es
-  unfolding starting fieldBy fieldAmong
+      → field_by names name v (ids_of es) (offsets_of es) ≡ field_among names name (object_from v) ts es
+  unfolding starting field_by field_among
   fields_found name [] s = refl
   fields_found name (x ∷ es) s =
       let p = both {a = among x.offset (starts_from 0 (layouts ts))} s in
@@ -75,13 +75,13 @@ module _ (names : List Name) (d w u : ℕ) (big : Bool) (fs : List Entry) (ts : 
       rw (part_shape x.offset p.0, fields_found name es q.1)
 
   integers_found : (es : List Entry) → starting (starts_from 0 (layouts ts)) (offsets_of es) ≡ true
-      → integerBy v (ids_of es) (offsets_of es) ≡ integerAmong ts es
-  unfolding starting integerBy integerAmong
+      → integer_by v (ids_of es) (offsets_of es) ≡ integer_among ts es
+  unfolding starting integer_by integer_among
   integers_found [] s = refl
   integers_found (x ∷ es) s =
       let p = both {a = among x.offset (starts_from 0 (layouts ts))} s in
       let q = both {a = not (among x.offset (offsets_of es))} p.1 in
-      rw (integer_found x.offset p.0, integers_found es q.1)
+      rw (integer_found_lem x.offset p.0, integers_found es q.1)
 
   -- a field that is found is one of the values
   record FoundAt (s e : ℕ) : Type 0 where
@@ -89,8 +89,8 @@ module _ (names : List Name) (d w u : ℕ) (big : Bool) (fs : List Entry) (ts : 
     start : among offset (starts_from 0 (layouts ts)) ≡ true
     part : answer.Part s e ≡ part_at v offset
 
-  found_at : (name : Name) (es : List Entry) {s e : ℕ} → starting (starts_from 0 (layouts ts)) (offsets_of es) ≡ true → fieldAmong names name (object_from v) ts es ≡ answer.Part s e → FoundAt s e
-  unfolding starting fieldAmong
+  found_at : (name : Name) (es : List Entry) {s e : ℕ} → starting (starts_from 0 (layouts ts)) (offsets_of es) ≡ true → field_among names name (object_from v) ts es ≡ answer.Part s e → FoundAt s e
+  unfolding starting field_among
   found_at name [] g q = absurd (false≢true (ap is_part q))
   found_at name (x ∷ es) {s} {e} g q =
       let p = both {a = among x.offset (starts_from 0 (layouts ts))} g in
@@ -100,15 +100,15 @@ module _ (names : List Name) (d w u : ℕ) (big : Bool) (fs : List Entry) (ts : 
       here : FieldPlace
       here = answer.Part (object_from v + x.offset) (object_from v + x.offset + length (layout (shape_at x.offset 0 ts)))
 
-      go : (t : Bool) → among x.offset (starts_from 0 (layouts ts)) ≡ true → cond t here (fieldAmong names name (object_from v) ts es) ≡ answer.Part s e
-          → (fieldAmong names name (object_from v) ts es ≡ answer.Part s e → FoundAt s e) → FoundAt s e
+      go : (t : Bool) → among x.offset (starts_from 0 (layouts ts)) ≡ true → cond t here (field_among names name (object_from v) ts es) ≡ answer.Part s e
+          → (field_among names name (object_from v) ts es ≡ answer.Part s e → FoundAt s e) → FoundAt s e
       go true a q f = record { offset = x.offset; start = a; part = sym q ∙ sym (part_shape x.offset a) }
       go false a q f = f q
 
 -- THE PART that is found is read again over the same dictionary, so that calls compose
-pub part_read : {d v : List ℕ} {w : ℕ} {mark : Bool} {names : List Name} (t : Shape) (name : Name) {s e : ℕ} → ReadsPair d v w mark names t → fieldIn names name t ≡ answer.Part s e
+pub part_read : {d v : List ℕ} {w : ℕ} {mark : Bool} {names : List Name} (t : Shape) (name : Name) {s e : ℕ} → ReadsPair d v w mark names t → field_in names name t ≡ answer.Part s e
     → (u : Shape) × ReadsPair d (part_of v (answer.Part s e)) w mark names u
-unfolding fieldIn
+unfolding field_in
 part_read (scalar s) name r q = absurd (false≢true (ap is_part q))
 part_read (list w big ts) name r q = absurd (false≢true (ap is_part q))
 part_read {v = v} {names = names} (object w u big es ts) name {s} {e} r q =
@@ -127,13 +127,13 @@ part_read {v = v} {names = names} (object w u big es ts) name {s} {e} r q =
 
 -- ---- by name
 
-field_number : (names : List Name) (name v is ns : List ℕ) → placeNumber (fieldBy names name v is ns) ≡ 0
-unfolding fieldBy
+field_number : (names : List Name) (name v is ns : List ℕ) → placeNumber (field_by names name v is ns) ≡ 0
+unfolding field_by
 field_number names name v [] ns = refl
 field_number names name v (i ∷ is) [] = refl
 field_number names name v (i ∷ is) (n ∷ ns) = go (same (name_at names i) name) (field_number names name v is ns)
   where
-    go : (t : Bool) → placeNumber (fieldBy names name v is ns) ≡ 0 → placeNumber (cond t (part_at v n) (fieldBy names name v is ns)) ≡ 0
+    go : (t : Bool) → placeNumber (field_by names name v is ns) ≡ 0 → placeNumber (cond t (part_at v n) (field_by names name v is ns)) ≡ 0
     go true h = refl
     go false h = h
 
@@ -142,20 +142,20 @@ module _ (d v name : List ℕ) {n : ℕ} (e : n ≡ first (pair_rows d v)) where
   field_refused k = record { number = e; found = λ t h z. absurd (k z) }
 
   pub field_missing : n ≡ 0 → (get_or v 0 0 % 4 ≡ 2 → ⊥) → FindsField d v name answer.Missing
-  unfolding fieldIn
+  unfolding field_in
   field_missing z k = record { number = sym z ∙ e; found = λ t h y. go t h.laid }
     where
-      go : (t : Shape) → v ≡ layout t → answer.Missing ≡ fieldIn (dictionary_names d) name t
+      go : (t : Shape) → v ≡ layout t → answer.Missing ≡ field_in (dictionary_names d) name t
       go (scalar s) l = refl
       go (list w big ts) l = refl
       go (object w u big es ts) l = absurd (k (rw l (object_first w u big es ts)))
 
-  pub field_named : n ≡ 0 → get_or v 0 0 % 4 ≡ 2 → {r : FieldPlace} → r ≡ fieldFound (dictionary_names d) name v → FindsField d v name r
-  unfolding fieldIn
+  pub field_named : n ≡ 0 → get_or v 0 0 % 4 ≡ 2 → {r : FieldPlace} → r ≡ field_found (dictionary_names d) name v → FindsField d v name r
+  unfolding field_in
   field_named z k {r} q =
       record { number = rw q (field_number (dictionary_names d) name v (stored_ids v) (object_offsets v)) ∙ (sym z ∙ e); found = λ t h y. q ∙ go t h.laid h.fits }
     where
-      go : (t : Shape) → v ≡ layout t → Fits (dictionary_names d) 64 t → fieldFound (dictionary_names d) name v ≡ fieldIn (dictionary_names d) name t
+      go : (t : Shape) → v ≡ layout t → Fits (dictionary_names d) 64 t → field_found (dictionary_names d) name v ≡ field_in (dictionary_names d) name t
       go (scalar s) l f = absurd (omega (arith, scalar_first s, ap (λ b. get_or b 0 0) l))
       go (list w big ts) l f = absurd (omega (arith, list_first w big ts, ap (λ b. get_or b 0 0) l))
       go (object w u big es ts) l f =
@@ -165,13 +165,13 @@ module _ (d v name : List ℕ) {n : ℕ} (e : n ≡ first (pair_rows d v)) where
 
 -- ---- the first integer
 
-integer_number : (v is ns : List ℕ) → integerNumber (integerBy v is ns) ≡ 0
-unfolding integerBy
+integer_number : (v is ns : List ℕ) → integerNumber (integer_by v is ns) ≡ 0
+unfolding integer_by
 integer_number v [] ns = refl
 integer_number v (i ∷ is) [] = refl
 integer_number v (i ∷ is) (n ∷ ns) = go (integer_in (part_of v (part_at v n))) (integer_number v is ns)
   where
-    go : (x : Integer) → integerNumber (integerBy v is ns) ≡ 0 → integerNumber (orNext x i (integerBy v is ns)) ≡ 0
+    go : (x : Integer) → integerNumber (integer_by v is ns) ≡ 0 → integerNumber (or_next x i (integer_by v is ns)) ≡ 0
     go (Number z) h = refl
     go Other h = h
 
@@ -180,19 +180,19 @@ module _ (d v : List ℕ) {n : ℕ} (e : n ≡ first (pair_rows d v)) where
   integer_refused k = record { number = e; found = λ t h z. absurd (k z) }
 
   pub integer_missing : n ≡ 0 → (get_or v 0 0 % 4 ≡ 2 → ⊥) → FindsInteger d v integer.Missing
-  unfolding integerFirst
+  unfolding integer_first
   integer_missing z k = record { number = sym z ∙ e; found = λ t h y. go t h.laid }
     where
-      go : (t : Shape) → v ≡ layout t → integer.Missing ≡ integerFirst t
+      go : (t : Shape) → v ≡ layout t → integer.Missing ≡ integer_first t
       go (scalar s) l = refl
       go (list w big ts) l = refl
       go (object w u big es ts) l = absurd (k (rw l (object_first w u big es ts)))
 
-  pub integer_first : n ≡ 0 → get_or v 0 0 % 4 ≡ 2 → {r : FirstInteger} → r ≡ integerFound v → FindsInteger d v r
-  unfolding integerFirst
-  integer_first z k {r} q = record { number = rw q (integer_number v (stored_ids v) (object_offsets v)) ∙ (sym z ∙ e); found = λ t h y. q ∙ go t h.laid h.fits }
+  pub integer_first_lem : n ≡ 0 → get_or v 0 0 % 4 ≡ 2 → {r : FirstInteger} → r ≡ integer_found v → FindsInteger d v r
+  unfolding integer_first
+  integer_first_lem z k {r} q = record { number = rw q (integer_number v (stored_ids v) (object_offsets v)) ∙ (sym z ∙ e); found = λ t h y. q ∙ go t h.laid h.fits }
     where
-      go : (t : Shape) → v ≡ layout t → Fits (dictionary_names d) 64 t → integerFound v ≡ integerFirst t
+      go : (t : Shape) → v ≡ layout t → Fits (dictionary_names d) 64 t → integer_found v ≡ integer_first t
       go (scalar s) l f = absurd (omega (arith, scalar_first s, ap (λ b. get_or b 0 0) l))
       go (list w big ts) l f = absurd (omega (arith, list_first w big ts, ap (λ b. get_or b 0 0) l))
       go (object w u big es ts) l f =

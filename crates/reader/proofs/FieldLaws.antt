@@ -26,7 +26,7 @@ use Rattle.reader.specs.declared.FirstInteger.TheVariants as integer
 use Rattle.scalar_reader.specs.declared.integers.Integer.{Integer}
 use Rattle.scalar_reader.specs.declared.integers.Integer.TheVariants.{Number, Other}
 use Rattle.scalar_reader.specs.Integers.{integer_in}
-use Rattle.reader.specs.Answers.{Inside, part_of, part_at, fieldBy, integerBy, orNext}
+use Rattle.reader.specs.Answers.{Inside, part_of, part_at, field_by, integer_by, or_next}
 
 -- ---- the part at a place
 
@@ -72,10 +72,10 @@ length_offsets v = length_numbers (offset_width v) (object_count v) (drop (offse
 
 -- the fields from k on decide as all of them do
 pub record Seeks (names : List Name) (name v : List ℕ) (r : FieldPlace) (k : ℕ) : Type 0 where
-  pub rest : fieldBy names name v (drop k (stored_ids v)) (drop k (object_offsets v)) ≡ r
+  pub rest : field_by names name v (drop k (stored_ids v)) (drop k (object_offsets v)) ≡ r
 
 pub record Hunts (v : List ℕ) (r : FirstInteger) (k : ℕ) : Type 0 where
-  pub rest : integerBy v (drop k (stored_ids v)) (drop k (object_offsets v)) ≡ r
+  pub rest : integer_by v (drop k (stored_ids v)) (drop k (object_offsets v)) ≡ r
 
 split : (l : List ℕ) (k : ℕ) → k < length l → drop k l ≡ get_or l k 0 ∷ drop (k + 1) l
 split l k h = let e : suc k ≡ k + 1 = omega arith in rw (drop-cons l k 0 h, e)
@@ -88,8 +88,8 @@ offsets_split v k h = split (object_offsets v) k (rw (length_offsets v) h)
 
 module _ {names : List Name} {name v : List ℕ} {r : FieldPlace} {k : ℕ} (s : Seeks names name v r k) where
   next : k < object_count v
-      → cond (same (name_at names (get_or (stored_ids v) k 0)) name) (part_at v (get_or (object_offsets v) k 0)) (fieldBy names name v (drop (k + 1) (stored_ids v)) (drop (k + 1) (object_offsets v))) ≡ r
-  unfolding fieldBy
+      → cond (same (name_at names (get_or (stored_ids v) k 0)) name) (part_at v (get_or (object_offsets v) k 0)) (field_by names name v (drop (k + 1) (stored_ids v)) (drop (k + 1) (object_offsets v))) ≡ r
+  unfolding field_by
   next h = rw (ids_split v k h, offsets_split v k h) at s.rest
 
   module _ {i : ℕ} {t : Bool} (h : k < object_count v) (e : i ≡ get_or (stored_ids v) k 0) (u : t ≡ same (name_at names i) name) where
@@ -100,13 +100,13 @@ module _ {names : List Name} {name v : List ℕ} {r : FieldPlace} {k : ℕ} (s :
     seeks_again y = record { rest = rw (← e, ← u, y) at (next h) }
 
   pub seeks_none : object_count v ≤ k → answer.Missing ≡ r
-  unfolding fieldBy
+  unfolding field_by
   seeks_none h = let l = length_ids v in rw (drop_of_length-le (stored_ids v) {i = k} (omega arith)) at s.rest
 
 module _ {v : List ℕ} {r : FirstInteger} {k : ℕ} (s : Hunts v r k) where
   number_next : k < object_count v
-      → orNext (integer_in (part_of v (part_at v (get_or (object_offsets v) k 0)))) (get_or (stored_ids v) k 0) (integerBy v (drop (k + 1) (stored_ids v)) (drop (k + 1) (object_offsets v))) ≡ r
-  unfolding integerBy
+      → or_next (integer_in (part_of v (part_at v (get_or (object_offsets v) k 0)))) (get_or (stored_ids v) k 0) (integer_by v (drop (k + 1) (stored_ids v)) (drop (k + 1) (object_offsets v))) ≡ r
+  unfolding integer_by
   number_next h = rw (ids_split v k h, offsets_split v k h) at s.rest
 
   module _ {i : ℕ} {p : FieldPlace} {bytes : List ℕ} {x : Integer} (h : k < object_count v) (e : i ≡ get_or (stored_ids v) k 0) (q : p ≡ part_at v (get_or (object_offsets v) k 0))
@@ -121,7 +121,7 @@ module _ {v : List ℕ} {r : FirstInteger} {k : ℕ} (s : Hunts v r k) where
     hunts_again y = record { rest = rw (← told, y) at (number_next h) }
 
   pub hunts_none : object_count v ≤ k → integer.Missing ≡ r
-  unfolding integerBy
+  unfolding integer_by
   hunts_none h = let l = length_ids v in rw (drop_of_length-le (stored_ids v) {i = k} (omega arith)) at s.rest
 
 -- ---- offsets lie in the bytes

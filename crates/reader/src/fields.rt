@@ -2,7 +2,7 @@
 ghost use Rattle.std.specs.Prelude.{◌≡◌, ◌+◌, ◌≤◌, length, get_or};
 ghost use Rattle.metadata.specs.Bytes.{dictionary_names};
 ghost use Rattle.grammar.specs.Tests.{object_from, object_offsets};
-ghost use Rattle.reader.specs.Answers.{FindsField, FindsInteger, Inside, fieldFound, integerFound, part_at, part_of};
+ghost use Rattle.reader.specs.Answers.{FindsField, FindsInteger, Inside, field_found, integer_found, part_at, part_of};
 
 use crate::read::read_pair;
 use crate::{FieldPlace, FirstInteger};
@@ -58,7 +58,7 @@ pub fn first_integer(d: &[u8], v: &[u8]) -> FirstInteger
 // By the names that the stored ids have, and not by an id.
 fn named_field(d: &[u8], v: &[u8], name: &[u8]) -> FieldPlace
     requires { Inside v.now }
-    ensures { result ≡ fieldFound (dictionary_names d.now) name.now v.now }
+    ensures { result ≡ field_found (dictionary_names d.now) name.now v.now }
 {
     let count = count_of_fields(v);
     let mut k = 0;
@@ -74,7 +74,7 @@ fn named_field(d: &[u8], v: &[u8], name: &[u8]) -> FieldPlace
 // A caller wanting a number takes it or goes on to the next field.
 fn integer_field(v: &[u8]) -> FirstInteger
     requires { Inside v.now }
-    ensures { result ≡ integerFound v.now }
+    ensures { result ≡ integer_found v.now }
 {
     let count = count_of_fields(v);
     let mut k = 0;

@@ -3,7 +3,7 @@ use native.Mathlib.Omega.{arith}
 use Rattle.reader.proofs.ValueLaws.{value_some, value_headed}
 use Rattle.reader.proofs.PairLaws.{pair_valid}
 use Rattle.reader.proofs.FieldLaws.{offsets_inside}
-use Rattle.reader.proofs.AnswerLaws.{integer_refused, integer_missing, integer_first}
+use Rattle.reader.proofs.AnswerLaws.{integer_refused, integer_missing, integer_first_lem}
 use Rattle.reader.proofs.fields.first_integer.Goals as goal
 
 pub returns-then-number-ne0 : goal.returns-then-number-ne0
@@ -27,4 +27,4 @@ integer_field-requires c =
 pub returns : goal.returns
 returns c =
     let a = c.args in
-    integer_first a.d.now a.v.now c.read_pair-number.ensures c.if-number-ne0.false c.if-v-ne2.false c.integer_field.ensures
+    integer_first_lem a.d.now a.v.now c.read_pair-number.ensures c.if-number-ne0.false c.if-v-ne2.false c.integer_field.ensures

@@ -1,5 +1,5 @@
 -- Each answer of a search, by the pair's number, the least place and the words written.
-use mathlib.Core.Path.{◌≡◌, refl, sym, ◌∙◌, ap}
+use mathlib.Core.Path.{◌≡◌, refl, sym, ◌∙◌}
 use mathlib.Core.Bool.{Bool, true, false, cond, not, ◌&&◌}
 use mathlib.Core.List.{List, [], ◌∷◌, ◌++◌}
 use mathlib.Core.Option.{Option, none, some}
@@ -26,7 +26,6 @@ use Rattle.path_words.specs.declared.PathWords.TheVariants as words_are
 use Rattle.path_words.specs.Descent.{path_in}
 use Rattle.path_words.specs.Writing.{WritesWords}
 use Rattle.path_words.proofs.DescentLaws.{words_read}
-use Rattle.finder.specs.declared.TextFound.{TextFound}
 use Rattle.finder.specs.declared.TextFound.TheVariants.{Words, Missing, NoRoom, Refused}
 use Rattle.finder.specs.Finds.{find_rows, FindsText}
 

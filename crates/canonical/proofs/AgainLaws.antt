@@ -43,11 +43,11 @@ module _ (floor : ℕ) (names : List Name) where
       → below n (name_of names e) ≡ true
   unfolding fields tree_of parts_of fields_from with_field
   over_entries n at end o h e m = absurd m
-  over_entries n at (child none l ls) o h e m = over_entries n _ ls o.1 h.2 e m
+  over_entries n at (child none l ls) o h e m = over_entries n (at + length (encode floor names (tree_of l))) ls o.1 h.2 e m
   over_entries n at (child (some k) l ls) o h e (inl q) =
       let p : name_of names e ≡ k = ap (name_of names) q ∙ place_here k names h.0 in
       rw p o.0
-  over_entries n at (child (some k) l ls) o h e (inr m) = over_entries n _ ls o.1 h.2 e m
+  over_entries n at (child (some k) l ls) o h e (inr m) = over_entries n (at + length (encode floor names (tree_of l))) ls o.1 h.2 e m
 
   -- so that they are in order
   pub entries_ordered : (d at : ℕ) (ls : Lives) → GoodAll d true ls → HeldItems names (items_of ls) → Ordered names (fields at ls)
@@ -55,7 +55,7 @@ module _ (floor : ℕ) (names : List Name) where
   entries_ordered d at end g h = tt
   entries_ordered d at (child none l ls) g h = absurd g.0
   entries_ordered d at (child (some k) l ls) g h =
-      ((λ f m. below_asym _ _ (rw (place_here k names h.0) (over_entries k _ ls g.0 h.2 f m))), entries_ordered d _ ls g.2 h.2)
+      ((λ f m. below_asym _ _ (rw (place_here k names h.0) (over_entries k (at + length (encode floor names (tree_of l))) ls g.0 h.2 f m))), entries_ordered d (at + length (encode floor names (tree_of l))) ls g.2 h.2)
 
   found : (at : ℕ) (t : Tree) (ts : Shapes) → live_at names at at (grammar.more (shape_of floor names t) ts) ≡ live_of names (shape_of floor names t)
   unfolding live_of

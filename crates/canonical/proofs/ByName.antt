@@ -1,5 +1,5 @@
 -- "fields taken by name": two objects hold the same fields exactly if each name's field is the same.
-use mathlib.Core.Path.{◌≡◌, refl, sym, ◌∙◌, ap}
+use mathlib.Core.Path.{◌≡◌, refl, sym, ◌∙◌, ap, subst}
 use mathlib.Core.Logic.{◌↔◌, ◌⊎◌, inl, inr}
 use mathlib.Core.Bool.{Bool, true, false, true≢false}
 use mathlib.Core.Option.{none, some}
@@ -60,7 +60,8 @@ same_fields d c (child (some n) l ls) (child (some m) x ms) g h e = go (below_to
     go (inl p) f = absurd (lacks n m l x ls ms p h.0 (e n))
     go (inr (inl p)) f =
         let t = f (tails p) in
-        let v : l ≡ x = some_inj l x (sym (field_here n l ls) ∙ (e n ∙ rw p (field_here m x ms))) in
+        let w : field_at n (child (some m) x ms) ≡ some x = subst (λ (k : Name). field_at k (child (some m) x ms) ≡ some x) (sym p) (field_here m x ms) in
+        let v : l ≡ x = some_inj l x (sym (field_here n l ls) ∙ (e n ∙ w)) in
         λ i. child (some (p i)) (v i) (t i)
     go (inr (inr p)) f = absurd (lacks m n x l ms ls p g.0 (sym (e m)))
 

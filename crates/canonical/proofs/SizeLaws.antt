@@ -10,7 +10,7 @@ use native.Mathlib.Decide.{dec_le}
 use lib.ListN.{length, get_or, length-append}
 use Rattle.value.specs.Scalar.{scalar_bytes}
 use Rattle.metadata.specs.Names.{Name, below, place}
-use Rattle.metadata.specs.Bytes.{joined, size_of as dictionary_size}
+use Rattle.metadata.specs.Bytes.{joined, size_of as bytes_of_names}
 use Rattle.metadata.proofs.DictionaryLaws.{place_here, below_asym}
 use Rattle.metadata.proofs.BytesLaws.{dictionary_size}
 use Rattle.container.specs.declared.Entry.{Entry}
@@ -35,12 +35,12 @@ module _ (names : List Name) where
   unfolding fields tree_of parts_of fields_from with_field count
   fields_count d at end g = refl
   fields_count d at (child none v ls) g = absurd g.0
-  fields_count d at (child (some n) v ls) g = ap suc (fields_count d _ ls g.2)
+  fields_count d at (child (some n) v ls) g = ap suc (fields_count d (at + length (encode 1 names (tree_of v))) ls g.2)
 
   pub starts_count : (at : ℕ) (ls : Lives) → length (starts_from at (parts_of 1 names (items_of ls))) ≡ count ls
   unfolding tree_of parts_of starts_from count
   starts_count at end = refl
-  starts_count at (child n v ls) = ap suc (starts_count _ ls)
+  starts_count at (child n v ls) = ap suc (starts_count (at + length (encode 1 names (tree_of v))) ls)
 
 module _ (names : List Name) (r : Rises names) where
   -- an id whose name is above n comes behind n's
@@ -103,6 +103,6 @@ unfolding one_value
 value_size d l g = encode_size (in_use l) (in_use_rises l) d l g (in_use_held l)
 
 -- and 16
-pub dictionary_is : (l : Live) → length (one_dictionary l) ≡ dictionary_size 1 (length (in_use l)) (length (joined (in_use l)))
+pub dictionary_is : (l : Live) → length (one_dictionary l) ≡ bytes_of_names 1 (length (in_use l)) (length (joined (in_use l)))
 unfolding one_dictionary
 dictionary_is l = dictionary_size 1 (in_use l)

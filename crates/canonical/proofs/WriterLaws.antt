@@ -4,7 +4,7 @@ use mathlib.Core.Logic.{◌↔◌, inl, inr}
 use mathlib.Core.Bool.{Bool, true, false, cond, true≢false}
 use mathlib.Core.List.{List, [], ◌∷◌, ◌++◌}
 use mathlib.Core.Option.{Option, none, some}
-use Prim.Native.Nat.{ℕ, zero, suc, ◌≤◌, ◌<◌}
+use Prim.Native.Nat.{ℕ, zero, suc, ◌+◌, ◌≤◌, ◌<◌}
 use native.Mathlib.Omega.{arith}
 use native.Mathlib.Decide.{dec_le}
 use lib.ListN.{length, get_or}
@@ -29,14 +29,14 @@ module _ (names : List Name) where
   ids_are : (at : ℕ) (ls : Lives) → ids_of (fields 1 names at ls) ≡ label_ids names ls
   unfolding fields tree_of parts_of fields_from with_field label_ids
   ids_are at end = refl
-  ids_are at (child none l ls) = ids_are _ ls
-  ids_are at (child (some n) l ls) = ap (λ x. place n names ∷ x) (ids_are _ ls)
+  ids_are at (child none l ls) = ids_are (at + length (encode 1 names (tree_of l))) ls
+  ids_are at (child (some n) l ls) = ap (λ x. place n names ∷ x) (ids_are (at + length (encode 1 names (tree_of l))) ls)
 
   offsets_are : (d at : ℕ) (ls : Lives) → GoodAll d true ls → offsets_of (fields 1 names at ls) ≡ starts_from at (parts_of 1 names (items_of ls))
   unfolding fields tree_of parts_of fields_from with_field starts_from
   offsets_are d at end g = refl
   offsets_are d at (child none l ls) g = absurd g.0
-  offsets_are d at (child (some n) l ls) g = ap (λ x. at ∷ x) (offsets_are d _ ls g.2)
+  offsets_are d at (child (some n) l ls) g = ap (λ x. at ∷ x) (offsets_are d (at + length (encode 1 names (tree_of l))) ls g.2)
 
   -- "data in name order": the ids of the names as they stand, and the offsets at which the values start, which a walk over them finds
   pub object_form : (d : ℕ) (ls : Lives) → GoodAll d true ls → HeldItems names (items_of ls)

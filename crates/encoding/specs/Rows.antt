@@ -35,7 +35,7 @@ Clear (r ∷ rs) = (r.test ≡ false) × Clear rs
 
 -- the numbers of the table, in its order
 abbrev pub order : List ℕ
-order = 26 ∷ 1 ∷ 21 ∷ 2 ∷ 3 ∷ 4 ∷ 5 ∷ 6 ∷ 22 ∷ 18 ∷ 7 ∷ 17 ∷ 8 ∷ 9 ∷ 10 ∷ 11 ∷ 12 ∷ 13 ∷ 23 ∷ 19 ∷ 20 ∷ 25 ∷ 14 ∷ 15 ∷ 16 ∷ 24 ∷ []
+order = 26 ∷ 1 ∷ 21 ∷ 2 ∷ 3 ∷ 4 ∷ 5 ∷ 6 ∷ 22 ∷ 18 ∷ 7 ∷ 17 ∷ 8 ∷ 9 ∷ 10 ∷ 11 ∷ 12 ∷ 13 ∷ 23 ∷ 19 ∷ 20 ∷ 14 ∷ 15 ∷ 16 ∷ 24 ∷ []
 
 -- n is one of these, and not 0, which is no number of the table
 abbrev pub listed : ℕ → List ℕ → Bool

@@ -1,5 +1,5 @@
 -- Each answer of a search, by the pair's number, the least place and the words written.
-use mathlib.Core.Path.{◌≡◌, refl, sym, ◌∙◌, ap}
+use mathlib.Core.Path.{◌≡◌, refl, sym, ◌∙◌}
 use mathlib.Core.Bool.{Bool, true, false, cond, not, ◌&&◌}
 use mathlib.Core.List.{List, [], ◌∷◌, ◌++◌}
 use mathlib.Core.Option.{Option, none, some}
@@ -8,7 +8,7 @@ use native.Mathlib.Omega.{arith}
 use lib.Dec.{leb, ltb}
 use lib.ListN.{length}
 use borrow.Author.Tests.{lt-ltb, le-ltb, ne_eqb}
-use Rattle.encoding.specs.Rows.{Row, row, first, order, in_order}
+use Rattle.encoding.specs.Rows.{Row, row, first, in_order}
 use Rattle.encoding.specs.Slices.{fits, write}
 use Rattle.metadata.specs.Names.{Name}
 use Rattle.metadata.specs.Bytes.{dictionary_names}
@@ -26,13 +26,12 @@ use Rattle.path_words.specs.declared.PathWords.TheVariants as words_are
 use Rattle.path_words.specs.Descent.{path_in}
 use Rattle.path_words.specs.Writing.{WritesWords}
 use Rattle.path_words.proofs.DescentLaws.{words_read}
-use Rattle.finder.specs.declared.TextFound.{TextFound}
 use Rattle.finder.specs.declared.TextFound.TheVariants.{Words, Missing, NoRoom, Refused}
-use Rattle.finder.specs.Finds.{find_rows, FindsText}
+use Rattle.finder.specs.Finds.{order_with_missing, find_rows, FindsText}
 
 -- ---- the rows
 
-pub find_order : (d v : List ℕ) (said : Option (List ℕ)) (out : List ℕ) → in_order order (find_rows d v said out) ≡ true
+pub find_order : (d v : List ℕ) (said : Option (List ℕ)) (out : List ℕ) → in_order order_with_missing (find_rows d v said out) ≡ true
 find_order d v said out = refl
 
 -- 19 and 20 before the others

@@ -29,6 +29,13 @@ first_none v e = (sym (get_or-eq_default v 0 {n = 0} (omega arith)), omega arith
 pub place_is : {a a' b b' c c' : ℕ} → a ≡ a' → b ≡ b' → c ≡ c' → a + b * c ≡ a' + b' * c'
 place_is p q r = rw (p, q, r)
 
+-- the number at a place of a table, and none behind it
+pub number_at_lem : (w k count p : ℕ) (v : List ℕ) → k < count → number_at v (p + w * k) w ≡ get_or (numbers w count (drop p v)) k 0
+number_at_lem w k count p v h = sym (end_at w count k (drop p v) h ∙ (rw (drop-drop (w * k) p v)))
+
+pub number_none : (w count k : ℕ) (bytes : List ℕ) → count ≤ k → 0 ≡ get_or (numbers w count bytes) k 0
+number_none w count k bytes h = sym (get_or-eq_default (numbers w count bytes) 0 {n = k} (rw (length_numbers w count bytes) h))
+
 -- number k of a table of `count` numbers of w bytes that starts at place p: none behind the last
 pub table_none : (w p : ℕ) (v : List ℕ) {n count k : ℕ} → n ≡ count → n ≤ k → (0 ≡ get_or (numbers w count (drop p v)) k 0) × (0 < 4294967296)
 table_none w p v {count = count} {k = k} e h =

@@ -12,10 +12,10 @@ pub returns-then-n-ne0 : goal.returns-then-n-ne0
 returns-then-n-ne0 c = finishes_early (c.finish_number-n.ensures c.args.out.now) c.if-n-ne0.true
 
 pub returns-in-Damaged : goal.returns-in-Damaged
-returns-in-Damaged c =  ends_damaged (left (goal.at.returns-in-Damaged c).Else-n-ne0) c.finish-r.ensures c.in-Damaged.is
+returns-in-Damaged c = ends_damaged (left (goal.at.returns-in-Damaged c).Else-n-ne0) c.finish-r.ensures c.in-Damaged.is
 
 pub returns-in-NoRoom : goal.returns-in-NoRoom
-returns-in-NoRoom c =  ends_full (left (goal.at.returns-in-NoRoom c).Else-n-ne0) c.finish-r.ensures c.in-NoRoom.is
+returns-in-NoRoom c = ends_full (left (goal.at.returns-in-NoRoom c).Else-n-ne0) c.finish-r.ensures c.in-NoRoom.is
 
 pub returns-in-Written : goal.returns-in-Written
 returns-in-Written c =

@@ -12,4 +12,4 @@ returns-then-e-2 c =
     puts_fresh a.e a.entries.now a.undo.now c.if-e.false c.if-e-2.true c.put_entry.ensures
 
 pub returns : goal.returns
-returns c =  let a = c.args in puts_none a.e a.entries.now a.undo.now c.if-e.false c.if-e-2.false
+returns c = let a = c.args in puts_none a.e a.entries.now a.undo.now c.if-e.false c.if-e-2.false

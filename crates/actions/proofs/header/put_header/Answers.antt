@@ -6,4 +6,4 @@ returns-then-v c undo =
     fronts_object c.if-v.true c.requires c.close_object.ensures
 
 pub returns : goal.returns
-returns c undo =  fronts_list c.if-v.false c.close_list.ensures
+returns c undo = fronts_list c.if-v.false c.close_list.ensures

@@ -10,4 +10,4 @@ returns c =
     mark_set c.mark_number-n.ensures c.new_mark-m.ensures c.if-n-ne0.false c.with_marks.ensures
 
 pub overflow_add-v : goal.overflow_add-v
-overflow_add-v c =  let h = marks_few _ _ c.mark_number-n.ensures c.if-n-ne0.false in record { fits = omega arith }
+overflow_add-v c = let h = marks_few _ _ c.mark_number-n.ensures c.if-n-ne0.false in record { fits = omega arith }

@@ -5,4 +5,4 @@ pub returns-then-e-ne0 : goal.returns-then-e-ne0
 returns-then-e-ne0 c = opens_refused c.args.object c.enter_over-e.ensures c.if-e-ne0.true
 
 pub returns : goal.returns
-returns c =  opens c.args.object c.enter_over-e.ensures c.if-e-ne0.false c.note-p.ensures c.child.ensures
+returns c = opens c.args.object c.enter_over-e.ensures c.if-e-ne0.false c.note-p.ensures c.child.ensures

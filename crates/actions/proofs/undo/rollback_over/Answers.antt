@@ -11,4 +11,4 @@ returns c =
     c.siblings_left.ensures
 
 pub overflow_sub-result : goal.overflow_sub-result
-overflow_sub-result c =  rollback_open _ _ c.rollback_number-d.ensures.number c.if-d-ne0.false
+overflow_sub-result c = rollback_open _ _ c.rollback_number-d.ensures.number c.if-d-ne0.false

@@ -5,4 +5,4 @@ use Rattle.ffi.proofs.words.marks_in.Goals as goal
 
 pub returns : goal.returns
 unfolding container_from
-returns c =  rw (← container_at_lem c.args.words.now c.args.i c.requires) refl
+returns c = rw (← container_at_lem c.args.words.now c.args.i c.requires) refl

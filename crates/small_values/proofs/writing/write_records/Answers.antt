@@ -14,7 +14,7 @@ there : (c : In-loop-n) → c.loop-n.n < 256 ^ c.args.length
 there c = omega (arith, c.string_count-count.ensures)
 
 -- and it is made
-made : (c : After-low_byte-in-loop-n-2) →  let k = c.args.length in
+made : (c : After-low_byte-in-loop-n-2) → let k = c.args.length in
     take (3 - (3 - k)) (drop (3 - k) (c.low_byte.result ∷ (c.low_byte-in-loop-n.result ∷ (c.low_byte-in-loop-n-2.result ∷ [])))) ≡ digits k c.loop-n.n
 made c =
     let p = c.requires.in_bounds in

@@ -9,34 +9,94 @@ use builder::{
     Answer, Called, FinishAnswer, append_bytes, append_value, close, finish, new, new_list,
     new_object,
 };
-use libc::STDOUT_FILENO;
 use semantics::Builder;
+use std::io;
+use std::io::Write;
 use value::decimal::VariantDecimal4;
 use value::variant::{Variant, VariantBytes};
 
-fn main() {
+fn main(rt: HostRuntime) -> io::Result<()> {
+    let to = &mut io::writer(&rt);
     let mut value = [0u8; 78];
     let mut text = [0u8; 52];
     let mut ends = [0usize; 8];
     let mut entries = [0usize; 16];
     let marks = [0usize; 7168];
     let mut b = object(
+        to,
         new(true),
         &marks,
         &value,
         &mut text,
         &mut ends,
         &mut entries,
-    );
-    b = tag(b, &marks, &mut value, &mut text, &mut ends, &mut entries);
-    b = weight(b, &marks, &mut value, &mut text, &mut ends, &mut entries);
-    b = sex(b, &marks, &mut value, &mut text, &mut ends, &mut entries);
-    b = born(b, &marks, &mut value, &mut text, &mut ends, &mut entries);
-    b = scanned(b, &marks, &mut value, &mut text, &mut ends, &mut entries);
-    b = temperature(b, &marks, &mut value, &mut text, &mut ends, &mut entries);
-    b = vaccinated(b, &marks, &mut value, &mut text, &mut ends, &mut entries);
-    b = readings(b, &marks, &value, &mut text, &mut ends, &mut entries);
+    )?;
+    b = tag(
+        to,
+        b,
+        &marks,
+        &mut value,
+        &mut text,
+        &mut ends,
+        &mut entries,
+    )?;
+    b = weight(
+        to,
+        b,
+        &marks,
+        &mut value,
+        &mut text,
+        &mut ends,
+        &mut entries,
+    )?;
+    b = sex(
+        to,
+        b,
+        &marks,
+        &mut value,
+        &mut text,
+        &mut ends,
+        &mut entries,
+    )?;
+    b = born(
+        to,
+        b,
+        &marks,
+        &mut value,
+        &mut text,
+        &mut ends,
+        &mut entries,
+    )?;
+    b = scanned(
+        to,
+        b,
+        &marks,
+        &mut value,
+        &mut text,
+        &mut ends,
+        &mut entries,
+    )?;
+    b = temperature(
+        to,
+        b,
+        &marks,
+        &mut value,
+        &mut text,
+        &mut ends,
+        &mut entries,
+    )?;
+    b = vaccinated(
+        to,
+        b,
+        &marks,
+        &mut value,
+        &mut text,
+        &mut ends,
+        &mut entries,
+    )?;
+    b = readings(to, b, &marks, &value, &mut text, &mut ends, &mut entries)?;
     b = reading(
+        to,
         b,
         &marks,
         &mut value,
@@ -44,8 +104,9 @@ fn main() {
         &mut ends,
         &mut entries,
         4131,
-    );
+    )?;
     b = reading(
+        to,
         b,
         &marks,
         &mut value,
@@ -53,8 +114,9 @@ fn main() {
         &mut ends,
         &mut entries,
         4128,
-    );
+    )?;
     b = reading(
+        to,
         b,
         &marks,
         &mut value,
@@ -62,33 +124,36 @@ fn main() {
         &mut ends,
         &mut entries,
         4125,
-    );
-    ended(b, &marks, &mut value, &text, &ends, &mut entries);
+    )?;
+    ended(to, b, &marks, &mut value, &text, &ends, &mut entries)
 }
 
-fn object(
+fn object<W: Write>(
+    to: &mut W,
     b: Builder,
     marks: &[usize; 7168],
     value: &[u8],
     text: &mut [u8],
     ends: &mut [usize],
     entries: &mut [usize],
-) -> Builder {
+) -> io::Result<Builder> {
     let opened = new_object(b, marks, value, text, ends, entries, &mut [], false, b"");
-    after(b"object", opened)
+    after(to, b"object", opened)
 }
 
 // Plain text, stored as short text up to 63 bytes.
-fn tag(
+fn tag<W: Write>(
+    to: &mut W,
     b: Builder,
     marks: &[usize; 7168],
     value: &mut [u8],
     text: &mut [u8],
     ends: &mut [usize],
     entries: &mut [usize],
-) -> Builder {
+) -> io::Result<Builder> {
     let kind = VariantBytes::Text;
     text_field(
+        to,
         b,
         marks,
         value,
@@ -102,94 +167,101 @@ fn tag(
 }
 
 // 412.5 kg.
-fn weight(
+fn weight<W: Write>(
+    to: &mut W,
     b: Builder,
     marks: &[usize; 7168],
     value: &mut [u8],
     text: &mut [u8],
     ends: &mut [usize],
     entries: &mut [usize],
-) -> Builder {
+) -> io::Result<Builder> {
     let kilograms = VariantDecimal4 {
         integer: 4125,
         scale: 1,
     };
     let x = Variant::Decimal4(kilograms);
-    field(b, marks, value, text, ends, entries, b"weight", x)
+    field(to, b, marks, value, text, ends, entries, b"weight", x)
 }
 
-fn sex(
+fn sex<W: Write>(
+    to: &mut W,
     b: Builder,
     marks: &[usize; 7168],
     value: &mut [u8],
     text: &mut [u8],
     ends: &mut [usize],
     entries: &mut [usize],
-) -> Builder {
+) -> io::Result<Builder> {
     let kind = VariantBytes::ShortString;
-    text_field(b, marks, value, text, ends, entries, b"sex", kind, b"F")
+    text_field(to, b, marks, value, text, ends, entries, b"sex", kind, b"F")
 }
 
 // On 14 August 2024, in days since 1970.
-fn born(
+fn born<W: Write>(
+    to: &mut W,
     b: Builder,
     marks: &[usize; 7168],
     value: &mut [u8],
     text: &mut [u8],
     ends: &mut [usize],
     entries: &mut [usize],
-) -> Builder {
+) -> io::Result<Builder> {
     let x = Variant::Date(19_949);
-    field(b, marks, value, text, ends, entries, b"born", x)
+    field(to, b, marks, value, text, ends, entries, b"born", x)
 }
 
 // On 5 March 2026 at 07:42:18.25 UTC, in microseconds since 1970.
-fn scanned(
+fn scanned<W: Write>(
+    to: &mut W,
     b: Builder,
     marks: &[usize; 7168],
     value: &mut [u8],
     text: &mut [u8],
     ends: &mut [usize],
     entries: &mut [usize],
-) -> Builder {
+) -> io::Result<Builder> {
     let x = Variant::TimestampMicros(1_772_696_538_250_000);
-    field(b, marks, value, text, ends, entries, b"scanned", x)
+    field(to, b, marks, value, text, ends, entries, b"scanned", x)
 }
 
 // 38.6 degrees Celsius, as the bits of a float.
-fn temperature(
+fn temperature<W: Write>(
+    to: &mut W,
     b: Builder,
     marks: &[usize; 7168],
     value: &mut [u8],
     text: &mut [u8],
     ends: &mut [usize],
     entries: &mut [usize],
-) -> Builder {
+) -> io::Result<Builder> {
     let x = Variant::Float(0x421A_6666);
-    field(b, marks, value, text, ends, entries, b"temperature", x)
+    field(to, b, marks, value, text, ends, entries, b"temperature", x)
 }
 
-fn vaccinated(
+fn vaccinated<W: Write>(
+    to: &mut W,
     b: Builder,
     marks: &[usize; 7168],
     value: &mut [u8],
     text: &mut [u8],
     ends: &mut [usize],
     entries: &mut [usize],
-) -> Builder {
+) -> io::Result<Builder> {
     let x = Variant::BooleanTrue;
-    field(b, marks, value, text, ends, entries, b"vaccinated", x)
+    field(to, b, marks, value, text, ends, entries, b"vaccinated", x)
 }
 
 // A list, open until it is closed.
-fn readings(
+fn readings<W: Write>(
+    to: &mut W,
     b: Builder,
     marks: &[usize; 7168],
     value: &[u8],
     text: &mut [u8],
     ends: &mut [usize],
     entries: &mut [usize],
-) -> Builder {
+) -> io::Result<Builder> {
     let opened = new_list(
         b,
         marks,
@@ -201,11 +273,12 @@ fn readings(
         true,
         b"readings",
     );
-    after(b"readings", opened)
+    after(to, b"readings", opened)
 }
 
 // A weight of the last three, in tenths of a kilogram.
-fn reading(
+fn reading<W: Write>(
+    to: &mut W,
     b: Builder,
     marks: &[usize; 7168],
     value: &mut [u8],
@@ -213,39 +286,46 @@ fn reading(
     ends: &mut [usize],
     entries: &mut [usize],
     n: i16,
-) -> Builder {
+) -> io::Result<Builder> {
     let x = Variant::Int16(n);
     let called = append_value(b, marks, value, text, ends, entries, &mut [], false, b"", x);
-    after(b"reading", called)
+    after(to, b"reading", called)
 }
 
 // The list closed, then the object, whose fields are counted before.
-fn ended(
+fn ended<W: Write>(
+    to: &mut W,
     b: Builder,
     marks: &[usize; 7168],
     value: &mut [u8],
     text: &[u8],
     ends: &[usize],
     entries: &mut [usize],
-) {
-    let outer = closed(b, marks, value, text, ends, entries);
+) -> io::Result<()> {
+    let outer = closed(to, b, marks, value, text, ends, entries)?;
     let fields = outer.counts.entries;
-    let whole = closed(outer, marks, value, text, ends, entries);
-    finished(fields, whole, marks, value, text, ends, entries);
+    let whole = closed(to, outer, marks, value, text, ends, entries)?;
+    finished(to, fields, whole, marks, value, text, ends, entries)
 }
 
-fn closed(
+fn closed<W: Write>(
+    to: &mut W,
     b: Builder,
     marks: &[usize; 7168],
     value: &mut [u8],
     text: &[u8],
     ends: &[usize],
     entries: &mut [usize],
-) -> Builder {
-    after(b"close", close(b, marks, value, text, ends, entries, &[]))
+) -> io::Result<Builder> {
+    after(
+        to,
+        b"close",
+        close(b, marks, value, text, ends, entries, &[]),
+    )
 }
 
-fn field(
+fn field<W: Write>(
+    to: &mut W,
     b: Builder,
     marks: &[usize; 7168],
     value: &mut [u8],
@@ -254,12 +334,13 @@ fn field(
     entries: &mut [usize],
     name: &[u8],
     x: Variant,
-) -> Builder {
+) -> io::Result<Builder> {
     let called = append_value(b, marks, value, text, ends, entries, &mut [], true, name, x);
-    after(name, called)
+    after(to, name, called)
 }
 
-fn text_field(
+fn text_field<W: Write>(
+    to: &mut W,
     b: Builder,
     marks: &[usize; 7168],
     value: &mut [u8],
@@ -269,7 +350,7 @@ fn text_field(
     name: &[u8],
     kind: VariantBytes,
     bytes: &[u8],
-) -> Builder {
+) -> io::Result<Builder> {
     let called = append_bytes(
         b,
         marks,
@@ -283,27 +364,28 @@ fn text_field(
         kind,
         bytes,
     );
-    after(name, called)
+    after(to, name, called)
 }
 
 // The call's line, and the builder after it.
-fn after(what: &[u8], called: Called) -> Builder {
+fn after<W: Write>(to: &mut W, what: &[u8], called: Called) -> io::Result<Builder> {
     let answer = called.answer;
     match answer {
-        Answer::Done => line(what, 0),
-        Answer::Refused(number) => line(what, number as usize),
+        Answer::Done => line(to, what, 0)?,
+        Answer::Refused(number) => line(to, what, number as usize)?,
     }
-    called.builder
+    Ok(called.builder)
 }
 
-fn line(what: &[u8], number: usize) {
-    print::text(what);
-    print::text(b" ");
-    io::print_decimal(STDOUT_FILENO, number as u64);
-    print::text(b"\n");
+fn line<W: Write>(to: &mut W, what: &[u8], number: usize) -> io::Result<()> {
+    print::text(to, what)?;
+    print::text(to, b" ")?;
+    print::decimal(to, number as u64)?;
+    print::text(to, b"\n")
 }
 
-fn finished(
+fn finished<W: Write>(
+    to: &mut W,
     fields: usize,
     b: Builder,
     marks: &[usize; 7168],
@@ -311,20 +393,21 @@ fn finished(
     text: &[u8],
     ends: &[usize],
     entries: &[usize],
-) {
+) -> io::Result<()> {
     let mut out = [0u8; 63];
     let done = finish(b, marks, value, text, ends, entries, &[], &mut out);
     let answer = done.answer;
     match answer {
         FinishAnswer::Written(n) => {
-            line(b"finish", 0);
-            line(b"fields", fields);
-            print::text(b"value ");
-            print::hex(value, done.builder.counts.value);
-            print::text(b"\ndictionary ");
-            print::hex(&out, n);
-            print::text(b"\n");
+            line(to, b"finish", 0)?;
+            line(to, b"fields", fields)?;
+            print::text(to, b"value ")?;
+            print::hex(to, value, done.builder.counts.value)?;
+            print::text(to, b"\ndictionary ")?;
+            print::hex(to, &out, n)?;
+            print::text(to, b"\n")?;
         }
-        FinishAnswer::Refused(number) => line(b"finish", number as usize),
+        FinishAnswer::Refused(number) => line(to, b"finish", number as usize)?,
     }
+    Ok(())
 }

@@ -1,43 +1,62 @@
-// Text and bytes on standard output, for the programs here. What is written no contract can say; these say that what is lent stays as
-// it is.
+// Text and bytes on a writer, for the programs here.
 #![tactic(auto)]
 
-ghost use Rattle.std.specs.Prelude.{◌≡◌};
+ghost use Rattle.std.specs.Prelude.{◌≡◌, ◌/◌, ◌%◌, ◌<◌, [], ◌∷◌, take, OnOk};
+ghost use Rattle.std.specs.Fmt.{decimal as decimal_digits};
+ghost use Rattle.std.specs.Io.KnownBytes.{Appends};
+ghost use Rattle.print.specs.Digits.{hex_digit, hex_digits, front_digits};
 
-use libc::STDOUT_FILENO;
+use std::io;
+use std::io::Write;
 
-pub fn text(bytes: &[u8])
-    ensures { bytes.now ≡ bytes.now }
+pub fn text<W: Write>(to: &mut W, bytes: &[u8]) -> io::Result<()>
+    ensures { OnOk result (Appends (W.contents to.old) (W.contents to.new) bytes.now) }
 {
-    io::write_all(STDOUT_FILENO, bytes);
+    to.write_all(bytes)
+}
+
+pub fn decimal<W: Write>(to: &mut W, n: u64) -> io::Result<()>
+    ensures { OnOk result (Appends (W.contents to.old) (W.contents to.new) (decimal_digits n)) }
+{
+    write!(to, "{n}")
 }
 
 // The first n bytes in hexadecimal, or as many as there are.
-pub fn hex(bytes: &[u8], n: usize)
-    ensures { bytes.now ≡ bytes.now }
+pub fn hex<W: Write>(to: &mut W, bytes: &[u8], n: usize) -> io::Result<()>
+    ensures { OnOk result (Appends (W.contents to.old) (W.contents to.new) (hex_digits (take n bytes.now))) }
 {
     let mut i = 0;
     while i < n {
         if bytes.len() <= i {
-            return;
+            return Ok(());
         }
-        byte(bytes[i]);
+        byte(to, bytes[i])?;
         i += 1;
     }
+    Ok(())
 }
 
 // The first n bytes, or the first 16 and two dots.
-pub fn front(bytes: &[u8], n: usize)
-    ensures { bytes.now ≡ bytes.now }
+pub fn front<W: Write>(to: &mut W, bytes: &[u8], n: usize) -> io::Result<()>
+    ensures { OnOk result (Appends (W.contents to.old) (W.contents to.new) (front_digits n bytes.now)) }
 {
     if n <= 16 {
-        hex(bytes, n);
-        return;
+        return hex(to, bytes, n);
     }
-    hex(bytes, 16);
-    text(b"..");
+    hex(to, bytes, 16)?;
+    text(to, b"..")
 }
 
-fn byte(b: u8) {
-    io::print_hex(STDOUT_FILENO, b as u64, 2);
+fn byte<W: Write>(to: &mut W, b: u8) -> io::Result<()>
+    ensures { OnOk result (Appends (W.contents to.old) (W.contents to.new)
+        (hex_digit (b / 16) ∷ hex_digit (b % 16) ∷ [])) }
+{
+    to.write_all(&[digit(b / 16), digit(b % 16)])
+}
+
+fn digit(d: u8) -> u8
+    requires { d < 16 }
+    ensures { result ≡ hex_digit d }
+{
+    if d <= 9 { b'0' + d } else { b'a' - 10 + d }
 }

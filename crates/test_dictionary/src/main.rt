@@ -5,57 +5,59 @@
 // parquet-variant 60.1.0 itself, with equal bytes, but for the sorted mark where names were cut: there the model alone has it so.
 #![tactic(auto)]
 
-use libc::STDOUT_FILENO;
 use metadata::{Finished, MetadataBuilder, add_field_name, finish, from_parts, is_never_used, new};
+use std::io;
+use std::io::Write;
 
-fn main() {
-    few();
-    cut();
-    many(b"255 names", 255);
-    many(b"256 names", 256);
-    long(b"a name of 255 bytes", 255);
-    long(b"a name of 256 bytes", 256);
-    long(b"a name of 65535 bytes", 65535);
-    long(b"a name of 65536 bytes", 65536);
-    unnamed();
+fn main(rt: HostRuntime) -> io::Result<()> {
+    let to = &mut io::writer(&rt);
+    few(to)?;
+    cut(to)?;
+    many(to, b"255 names", 255)?;
+    many(to, b"256 names", 256)?;
+    long(to, b"a name of 255 bytes", 255)?;
+    long(to, b"a name of 256 bytes", 256)?;
+    long(to, b"a name of 65535 bytes", 65535)?;
+    long(to, b"a name of 65536 bytes", 65536)?;
+    unnamed(to)
 }
 
-fn few() {
+fn few<W: Write>(to: &mut W) -> io::Result<()> {
     let mut text = [0u8; 16];
     let mut ends = [0usize; 4];
-    line(b"none", new(), &text, &ends);
+    line(to, b"none", new(), &text, &ends)?;
     let one = with(new(), &mut text, &mut ends, b"");
-    line(b"one empty name", one, &text, &ends);
+    line(to, b"one empty name", one, &text, &ends)?;
     let b = with(new(), &mut text, &mut ends, b"b");
-    line(b"b", b, &text, &ends);
+    line(to, b"b", b, &text, &ends)?;
     let two = with(b, &mut text, &mut ends, b"a");
-    line(b"b, a", two, &text, &ends);
+    line(to, b"b, a", two, &text, &ends)?;
     let a = with(new(), &mut text, &mut ends, b"a");
     let ab = with(a, &mut text, &mut ends, b"b");
     let abc = with(ab, &mut text, &mut ends, b"c");
-    line(b"a, b, c", abc, &text, &ends);
+    line(to, b"a, b, c", abc, &text, &ends)?;
     let last = with(a, &mut text, &mut ends, b"");
-    line(b"a, the empty name", last, &text, &ends);
+    line(to, b"a, the empty name", last, &text, &ends)
 }
 
-fn cut() {
+fn cut<W: Write>(to: &mut W) -> io::Result<()> {
     let mut text = [0u8; 16];
     let mut ends = [0usize; 4];
     let b = with(new(), &mut text, &mut ends, b"b");
     let two = with(b, &mut text, &mut ends, b"a");
     let again = with(from_parts(1, 1), &mut text, &mut ends, b"c");
-    line(b"b, a, cut to b, c", again, &text, &ends);
+    line(to, b"b, a, cut to b, c", again, &text, &ends)?;
     let none = from_parts(0, 0);
-    line(b"b, cut to none", none, &text, &ends);
+    line(to, b"b, cut to none", none, &text, &ends)?;
     let other = with(none, &mut text, &mut ends, b"a");
-    line(b"b, cut to none, a", other, &text, &ends);
+    line(to, b"b, cut to none, a", other, &text, &ends)
 }
 
-fn many(label: &[u8], n: usize) {
+fn many<W: Write>(to: &mut W, label: &[u8], n: usize) -> io::Result<()> {
     let mut text = [0u8; 512];
     let mut ends = [0usize; 256];
     let m = filled(&mut text, &mut ends, n);
-    line(label, m, &text, &ends);
+    line(to, label, m, &text, &ends)
 }
 
 // n names of two bytes, ascending.
@@ -71,40 +73,41 @@ fn filled(text: &mut [u8], ends: &mut [usize], n: usize) -> MetadataBuilder {
 }
 
 // One name of n bytes.
-fn long(label: &[u8], n: usize) {
+fn long<W: Write>(to: &mut W, label: &[u8], n: usize) -> io::Result<()> {
     let name = [0x61u8; 65536];
     let mut text = [0u8; 65536];
     let mut ends = [0usize; 1];
     let m = with(new(), &mut text, &mut ends, front(&name, n));
-    line(label, m, &text, &ends);
+    line(to, label, m, &text, &ends)
 }
 
 // A fresh dictionary, one whose only name was cut, and one of the empty name.
-fn unnamed() {
+fn unnamed<W: Write>(to: &mut W) -> io::Result<()> {
     let mut text = [0u8; 1];
     let mut ends = [0usize; 1];
-    told(new(), &text, &ends);
+    told(to, new(), &text, &ends)?;
     with(new(), &mut text, &mut ends, b"b");
-    told(from_parts(0, 0), &text, &ends);
+    told(to, from_parts(0, 0), &text, &ends)?;
     let empty = with(new(), &mut text, &mut ends, b"");
-    told(empty, &text, &ends);
+    told(to, empty, &text, &ends)
 }
 
 // "never used" where the bytes written are those of such a dictionary, else "used".
-fn told(m: MetadataBuilder, text: &[u8], ends: &[usize]) {
+fn told<W: Write>(to: &mut W, m: MetadataBuilder, text: &[u8], ends: &[usize]) -> io::Result<()> {
     let mut out = [0u8; 4];
     match finish(m, 1, text, ends, &mut out) {
         Finished::Written(n) => {
             if is_never_used(front(&out, n)) {
-                line(b"never used", m, text, ends);
+                line(to, b"never used", m, text, ends)?;
             } else {
-                line(b"used", m, text, ends);
+                line(to, b"used", m, text, ends)?;
             }
         }
         _ => {
-            print::text(b"refused\n");
+            print::text(to, b"refused\n")?;
         }
     }
+    Ok(())
 }
 
 fn front(s: &[u8], n: usize) -> &[u8] {
@@ -118,22 +121,29 @@ fn with(m: MetadataBuilder, text: &mut [u8], ends: &mut [usize], name: &[u8]) ->
     add_field_name(m, text, ends, name).metadata
 }
 
-fn line(label: &[u8], m: MetadataBuilder, text: &[u8], ends: &[usize]) {
-    print::text(label);
+fn line<W: Write>(
+    to: &mut W,
+    label: &[u8],
+    m: MetadataBuilder,
+    text: &[u8],
+    ends: &[usize],
+) -> io::Result<()> {
+    print::text(to, label)?;
     let mut out = [0u8; 65600];
     match finish(m, 1, text, ends, &mut out) {
         Finished::Written(n) => {
-            print::text(b": ");
-            io::print_decimal(STDOUT_FILENO, n as u64);
-            print::text(b" bytes, ");
-            print::front(&out, n);
-            print::text(b"\n");
+            print::text(to, b": ")?;
+            print::decimal(to, n as u64)?;
+            print::text(to, b" bytes, ")?;
+            print::front(to, &out, n)?;
+            print::text(to, b"\n")?;
         }
         Finished::Damaged => {
-            print::text(b" refused 1\n");
+            print::text(to, b" refused 1\n")?;
         }
         Finished::NoRoom => {
-            print::text(b" refused 16\n");
+            print::text(to, b" refused 16\n")?;
         }
     }
+    Ok(())
 }

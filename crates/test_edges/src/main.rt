@@ -8,40 +8,48 @@ ghost use Rattle.std.specs.Prelude.{◌≤◌};
 
 use builder::new;
 use builder_mut::{Call, LendCalled, lend};
-use libc::STDOUT_FILENO;
 use metadata::num_field_names;
+use std::io;
+use std::io::Write;
 use value::variant::{Variant, VariantBytes};
 
-fn main() {
+fn main(rt: HostRuntime) -> io::Result<()> {
+    let to = &mut io::writer(&rt);
     let mut marks = [0usize; 7168];
-    lists(&mut marks);
-    texts(&mut marks);
-    depths(&mut marks);
+    lists(to, &mut marks)?;
+    texts(to, &mut marks)?;
+    depths(to, &mut marks)
 }
 
-fn lists(marks: &mut [usize; 7168]) {
+fn lists<W: Write>(to: &mut W, marks: &mut [usize; 7168]) -> io::Result<()> {
     let mut n255 = [b'n'; 256];
     n255[0] = b'[';
-    case(marks, b"list of 255 nulls", &n255, b"].");
+    case(to, marks, b"list of 255 nulls", &n255, b"].")?;
     let mut n256 = [b'n'; 257];
     n256[0] = b'[';
-    case(marks, b"list of 256 nulls", &n256, b"].");
+    case(to, marks, b"list of 256 nulls", &n256, b"].")
 }
 
-fn texts(marks: &mut [usize; 7168]) {
-    case(marks, b"text of 63 bytes", b"", b"t.");
-    case(marks, b"text of 64 bytes", b"", b"T.");
+fn texts<W: Write>(to: &mut W, marks: &mut [usize; 7168]) -> io::Result<()> {
+    case(to, marks, b"text of 63 bytes", b"", b"t.")?;
+    case(to, marks, b"text of 64 bytes", b"", b"T.")
 }
 
-fn depths(marks: &mut [usize; 7168]) {
+fn depths<W: Write>(to: &mut W, marks: &mut [usize; 7168]) -> io::Result<()> {
     let opened = [b'['; 64];
     let mut closed = [b']'; 65];
     closed[64] = b'.';
-    case(marks, b"depth 64", &opened, &closed);
-    case(marks, b"depth 65", &opened, b"[");
+    case(to, marks, b"depth 64", &opened, &closed)?;
+    case(to, marks, b"depth 65", &opened, b"[")
 }
 
-fn case(marks: &mut [usize; 7168], label: &[u8], before: &[u8], last: &[u8]) {
+fn case<W: Write>(
+    to: &mut W,
+    marks: &mut [usize; 7168],
+    label: &[u8],
+    before: &[u8],
+    last: &[u8],
+) -> io::Result<()> {
     let mut value = [0u8; 1024];
     let mut entries = [0usize; 512];
     let mut out = [0u8; 3];
@@ -52,31 +60,38 @@ fn case(marks: &mut [usize; 7168], label: &[u8], before: &[u8], last: &[u8]) {
     };
     let r = run(fresh, marks, &mut value, &mut entries, &mut out, before);
     let s = run(r, marks, &mut value, &mut entries, &mut out, last);
-    line(label, r.number, s, &value, &out);
+    line(to, label, r.number, s, &value, &out)
 }
 
-fn line(label: &[u8], before: u8, s: LendCalled, value: &[u8], out: &[u8]) {
-    print::text(label);
-    print::text(b": ");
-    io::print_decimal(STDOUT_FILENO, before as u64);
-    print::text(b" ");
-    io::print_decimal(STDOUT_FILENO, s.number as u64);
-    print::text(b", ");
+fn line<W: Write>(
+    to: &mut W,
+    label: &[u8],
+    before: u8,
+    s: LendCalled,
+    value: &[u8],
+    out: &[u8],
+) -> io::Result<()> {
+    print::text(to, label)?;
+    print::text(to, b": ")?;
+    print::decimal(to, before as u64)?;
+    print::text(to, b" ")?;
+    print::decimal(to, s.number as u64)?;
+    print::text(to, b", ")?;
     let m = s.builder.counts.dictionary;
-    io::print_decimal(STDOUT_FILENO, num_field_names(m) as u64);
-    print::text(b" names, ");
+    print::decimal(to, num_field_names(m) as u64)?;
+    print::text(to, b" names, ")?;
     let used = s.builder.counts.value;
-    io::print_decimal(STDOUT_FILENO, used as u64);
-    print::text(b" bytes");
+    print::decimal(to, used as u64)?;
+    print::text(to, b" bytes")?;
     if 0 < used {
-        print::text(b", ");
-        print::front(value, used);
+        print::text(to, b", ")?;
+        print::front(to, value, used)?;
     }
     if 0 < s.written {
-        print::text(b", dictionary ");
-        print::hex(out, s.written);
+        print::text(to, b", dictionary ")?;
+        print::hex(to, out, s.written)?;
     }
-    print::text(b"\n");
+    print::text(to, b"\n")
 }
 
 // The calls in order, up to the first one refused.

@@ -4,71 +4,82 @@
 
 use container::{Closed, Entry, Frame, close_object, put_entry, search_entries};
 use encoding::slices::write_slice;
-use libc::STDOUT_FILENO;
 use list::close_list;
 use metadata::{MetadataBuilder, add_field_name};
+use std::io;
+use std::io::Write;
 
-fn main() {
-    list(b"list of 0 nulls", 0);
-    list(b"list of 1 nulls", 1);
-    list(b"list of 255 nulls", 255);
-    list(b"list of 256 nulls", 256);
-    lists();
-    no_lists();
-    no_fields(b"object of no fields");
-    object(b"object of one null, id 0", 0);
-    object(b"object of one null, id 255", 255);
-    object(b"object of one null, id 256", 256);
-    object(b"object of one null, id 65536", 65536);
-    two_fields(b"object of b = int8 1, a = int8 2");
+fn main(rt: HostRuntime) -> io::Result<()> {
+    let to = &mut io::writer(&rt);
+    list(to, b"list of 0 nulls", 0)?;
+    list(to, b"list of 1 nulls", 1)?;
+    list(to, b"list of 255 nulls", 255)?;
+    list(to, b"list of 256 nulls", 256)?;
+    lists(to)?;
+    no_lists(to)?;
+    no_fields(to, b"object of no fields")?;
+    object(to, b"object of one null, id 0", 0)?;
+    object(to, b"object of one null, id 255", 255)?;
+    object(to, b"object of one null, id 256", 256)?;
+    object(to, b"object of one null, id 65536", 65536)?;
+    two_fields(to, b"object of b = int8 1, a = int8 2")
 }
 
 // Lists of other values.
-fn lists() {
+fn lists<W: Write>(to: &mut W) -> io::Result<()> {
     values(
+        to,
         b"list of a null, int8 7, text ab",
         b"\x00\x0c\x07\x09ab",
         3,
         1,
-    );
+    )?;
     values(
+        to,
         b"list of a list, an object, a large list",
         b"\x03\x01\x00\x01\x00\x02\x01\x00\x00\x01\x00\x13\x01\x00\x00\x00\x00\x01\x00",
         3,
         1,
-    );
-    values(b"list of one null, floor 3", b"\x00", 1, 3);
+    )?;
+    values(to, b"list of one null, floor 3", b"\x00", 1, 3)
 }
 
 // Data that is not as many values as counted.
-fn no_lists() {
-    values(b"list of a type code 21", b"\x54", 1, 1);
-    values(b"list of two nulls, counted one", b"\x00\x00", 1, 1);
+fn no_lists<W: Write>(to: &mut W) -> io::Result<()> {
+    values(to, b"list of a type code 21", b"\x54", 1, 1)?;
+    values(to, b"list of two nulls, counted one", b"\x00\x00", 1, 1)?;
     values(
+        to,
         b"list of a count that overflows",
         b"\x42\xff\xff\xff\xff\x00",
         1,
         1,
-    );
+    )
 }
 
 // n nulls: each is one byte, 00.
-fn list(label: &[u8], n: usize) {
+fn list<W: Write>(to: &mut W, label: &[u8], n: usize) -> io::Result<()> {
     let mut value = [0u8; 1024];
     let closed = close_list(0, n, n, 1, &mut value);
-    line(label, closed, n, &value);
+    line(to, label, closed, n, &value)
 }
 
 // A list with this data and count.
-fn values(label: &[u8], data: &[u8], count: usize, floor: usize) {
+fn values<W: Write>(
+    to: &mut W,
+    label: &[u8],
+    data: &[u8],
+    count: usize,
+    floor: usize,
+) -> io::Result<()> {
     let mut value = [0u8; 64];
     write_slice(&mut value, 0, data);
     let size = data.len();
     let closed = close_list(0, size, count, floor, &mut value);
-    line(label, closed, size, &value);
+    line(to, label, closed, size, &value)
 }
 
-fn no_fields(label: &[u8]) {
+fn no_fields<W: Write>(to: &mut W, label: &[u8]) -> io::Result<()> {
     let mut value = [0u8; 64];
     let mut entries = [0usize; 4];
     let most = largest(&entries, 0);
@@ -81,10 +92,10 @@ fn no_fields(label: &[u8]) {
         &mut value,
         &mut entries,
     );
-    line(label, closed, 0, &value);
+    line(to, label, closed, 0, &value)
 }
 
-fn object(label: &[u8], id: usize) {
+fn object<W: Write>(to: &mut W, label: &[u8], id: usize) -> io::Result<()> {
     let mut value = [0u8; 64];
     let mut entries = [0usize; 4];
     put_entry(&mut entries, 0, Entry { id, offset: 0 });
@@ -98,10 +109,10 @@ fn object(label: &[u8], id: usize) {
         &mut value,
         &mut entries,
     );
-    line(label, closed, 1, &value);
+    line(to, label, closed, 1, &value)
 }
 
-fn two_fields(label: &[u8]) {
+fn two_fields<W: Write>(to: &mut W, label: &[u8]) -> io::Result<()> {
     let mut text = [0u8; 2];
     let mut ends = [0usize; 2];
     let b = with(metadata::new(), &mut text, &mut ends, b"b");
@@ -120,7 +131,7 @@ fn two_fields(label: &[u8]) {
         &mut value,
         &mut entries,
     );
-    line(label, closed, 4, &value);
+    line(to, label, closed, 4, &value)
 }
 
 fn with(m: MetadataBuilder, text: &mut [u8], ends: &mut [usize], name: &[u8]) -> MetadataBuilder {
@@ -143,24 +154,31 @@ fn frame(used: usize, to: usize) -> Frame {
 }
 
 // The bytes before `size` bytes of data.
-fn line(label: &[u8], closed: Closed, size: usize, value: &[u8]) {
-    print::text(label);
+fn line<W: Write>(
+    to: &mut W,
+    label: &[u8],
+    closed: Closed,
+    size: usize,
+    value: &[u8],
+) -> io::Result<()> {
+    print::text(to, label)?;
     match closed {
         Closed::Done(used) => {
-            print::text(b": ");
+            print::text(to, b": ")?;
             let n = saturating_sub(used, size);
-            io::print_decimal(STDOUT_FILENO, n as u64);
-            print::text(b" bytes, ");
-            print::front(value, n);
-            print::text(b"\n");
+            print::decimal(to, n as u64)?;
+            print::text(to, b" bytes, ")?;
+            print::front(to, value, n)?;
+            print::text(to, b"\n")?;
         }
         Closed::Damaged => {
-            print::text(b" refused 1\n");
+            print::text(to, b" refused 1\n")?;
         }
         Closed::NoRoom => {
-            print::text(b" refused 14\n");
+            print::text(to, b" refused 14\n")?;
         }
     }
+    Ok(())
 }
 
 fn saturating_sub(a: usize, b: usize) -> usize {

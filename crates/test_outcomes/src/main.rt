@@ -8,32 +8,35 @@ use builder::{
     Answer, Called, FinishAnswer, append_bytes, append_value, close, finish, new, new_list,
     new_object, rollback,
 };
-use libc::STDOUT_FILENO;
 use semantics::Builder;
+use std::io;
+use std::io::Write;
 use value::variant::{Variant, VariantBytes};
 
-fn main() {
+fn main(rt: HostRuntime) -> io::Result<()> {
+    let to = &mut io::writer(&rt);
     let marks = [99usize; 7168];
-    scalar(&marks, 1, Variant::Null);
-    scalar(&marks, 2, Variant::Int8(5));
-    scalar(&marks, 3, Variant::Int16(-2));
-    plain_text(&marks);
-    empty_list(&marks);
-    empty_object(&marks);
-    list_in_list(&marks);
-    two_fields(&marks);
-    replaced_field(&marks);
-    replaced_rolled_back(&marks);
-    all_rolled_back(&marks);
-    new_rolled_back(&marks);
+    scalar(to, &marks, 1, Variant::Null)?;
+    scalar(to, &marks, 2, Variant::Int8(5))?;
+    scalar(to, &marks, 3, Variant::Int16(-2))?;
+    plain_text(to, &marks)?;
+    empty_list(to, &marks)?;
+    empty_object(to, &marks)?;
+    list_in_list(to, &marks)?;
+    two_fields(to, &marks)?;
+    replaced_field(to, &marks)?;
+    replaced_rolled_back(to, &marks)?;
+    all_rolled_back(to, &marks)?;
+    new_rolled_back(to, &marks)
 }
 
-fn scalar(marks: &[usize; 7168], case: usize, x: Variant) {
+fn scalar<W: Write>(to: &mut W, marks: &[usize; 7168], case: usize, x: Variant) -> io::Result<()> {
     let mut value = [0xEEu8; 3];
     let mut text = [0xEEu8; 1];
     let mut ends = [99usize; 1];
     let mut entries = [99usize; 2];
     let b = top(
+        to,
         new(true),
         marks,
         &mut value,
@@ -41,11 +44,11 @@ fn scalar(marks: &[usize; 7168], case: usize, x: Variant) {
         &mut ends,
         &mut entries,
         x,
-    );
-    line(case, b, marks, &value, &text, &ends, &entries);
+    )?;
+    line(to, case, b, marks, &value, &text, &ends, &entries)
 }
 
-fn plain_text(marks: &[usize; 7168]) {
+fn plain_text<W: Write>(to: &mut W, marks: &[usize; 7168]) -> io::Result<()> {
     let mut value = [0xEEu8; 3];
     let mut text = [0xEEu8; 1];
     let mut ends = [99usize; 1];
@@ -63,53 +66,80 @@ fn plain_text(marks: &[usize; 7168]) {
         VariantBytes::Text,
         b"hi",
     );
-    line(4, after(called), marks, &value, &text, &ends, &entries);
+    let b = after(to, called)?;
+    line(to, 4, b, marks, &value, &text, &ends, &entries)
 }
 
-fn empty_list(marks: &[usize; 7168]) {
+fn empty_list<W: Write>(to: &mut W, marks: &[usize; 7168]) -> io::Result<()> {
     let mut value = [0xEEu8; 3];
     let mut text = [0xEEu8; 1];
     let mut ends = [99usize; 1];
     let mut entries = [99usize; 1];
     let b = list_closed(
+        to,
         new(true),
         marks,
         &mut value,
         &mut text,
         &mut ends,
         &mut entries,
-    );
-    line(5, b, marks, &value, &text, &ends, &entries);
+    )?;
+    line(to, 5, b, marks, &value, &text, &ends, &entries)
 }
 
-fn empty_object(marks: &[usize; 7168]) {
+fn empty_object<W: Write>(to: &mut W, marks: &[usize; 7168]) -> io::Result<()> {
     let mut value = [0xEEu8; 3];
     let mut text = [0xEEu8; 1];
     let mut ends = [99usize; 1];
     let mut entries = [99usize; 1];
-    let mut b = object(new(true), marks, &value, &mut text, &mut ends, &mut entries);
-    b = closed(b, marks, &mut value, &text, &ends, &mut entries);
-    line(6, b, marks, &value, &text, &ends, &entries);
+    let mut b = object(
+        to,
+        new(true),
+        marks,
+        &value,
+        &mut text,
+        &mut ends,
+        &mut entries,
+    )?;
+    b = closed(to, b, marks, &mut value, &text, &ends, &mut entries)?;
+    line(to, 6, b, marks, &value, &text, &ends, &entries)
 }
 
-fn list_in_list(marks: &[usize; 7168]) {
+fn list_in_list<W: Write>(to: &mut W, marks: &[usize; 7168]) -> io::Result<()> {
     let mut value = [0xEEu8; 7];
     let mut text = [0xEEu8; 1];
     let mut ends = [99usize; 1];
     let mut entries = [99usize; 2];
-    let mut b = list(new(true), marks, &value, &mut text, &mut ends, &mut entries);
-    b = list_closed(b, marks, &mut value, &mut text, &mut ends, &mut entries);
-    b = closed(b, marks, &mut value, &text, &ends, &mut entries);
-    line(7, b, marks, &value, &text, &ends, &entries);
+    let mut b = list(
+        to,
+        new(true),
+        marks,
+        &value,
+        &mut text,
+        &mut ends,
+        &mut entries,
+    )?;
+    b = list_closed(to, b, marks, &mut value, &mut text, &mut ends, &mut entries)?;
+    b = closed(to, b, marks, &mut value, &text, &ends, &mut entries)?;
+    line(to, 7, b, marks, &value, &text, &ends, &entries)
 }
 
-fn two_fields(marks: &[usize; 7168]) {
+fn two_fields<W: Write>(to: &mut W, marks: &[usize; 7168]) -> io::Result<()> {
     let mut value = [0xEEu8; 11];
     let mut text = [0xEEu8; 2];
     let mut ends = [99usize; 2];
     let mut entries = [99usize; 4];
-    let mut b = object(new(true), marks, &value, &mut text, &mut ends, &mut entries);
+    let mut b = object(
+        to,
+        new(true),
+        marks,
+        &value,
+        &mut text,
+        &mut ends,
+        &mut entries,
+    )?;
     b = field(
+        to,
         b,
         marks,
         &mut value,
@@ -118,8 +148,9 @@ fn two_fields(marks: &[usize; 7168]) {
         &mut entries,
         b"b",
         1,
-    );
+    )?;
     b = field(
+        to,
         b,
         marks,
         &mut value,
@@ -128,25 +159,27 @@ fn two_fields(marks: &[usize; 7168]) {
         &mut entries,
         b"a",
         2,
-    );
-    b = closed(b, marks, &mut value, &text, &ends, &mut entries);
-    line(8, b, marks, &value, &text, &ends, &entries);
+    )?;
+    b = closed(to, b, marks, &mut value, &text, &ends, &mut entries)?;
+    line(to, 8, b, marks, &value, &text, &ends, &entries)
 }
 
-fn replaced_field(marks: &[usize; 7168]) {
+fn replaced_field<W: Write>(to: &mut W, marks: &[usize; 7168]) -> io::Result<()> {
     let mut value = [0xEEu8; 9];
     let mut text = [0xEEu8; 1];
     let mut ends = [99usize; 1];
     let mut entries = [99usize; 2];
     let mut b = object(
+        to,
         new(false),
         marks,
         &value,
         &mut text,
         &mut ends,
         &mut entries,
-    );
+    )?;
     b = field(
+        to,
         b,
         marks,
         &mut value,
@@ -155,8 +188,9 @@ fn replaced_field(marks: &[usize; 7168]) {
         &mut entries,
         b"a",
         1,
-    );
+    )?;
     b = field(
+        to,
         b,
         marks,
         &mut value,
@@ -165,25 +199,27 @@ fn replaced_field(marks: &[usize; 7168]) {
         &mut entries,
         b"a",
         2,
-    );
-    b = closed(b, marks, &mut value, &text, &ends, &mut entries);
-    line(9, b, marks, &value, &text, &ends, &entries);
+    )?;
+    b = closed(to, b, marks, &mut value, &text, &ends, &mut entries)?;
+    line(to, 9, b, marks, &value, &text, &ends, &entries)
 }
 
-fn replaced_rolled_back(marks: &[usize; 7168]) {
+fn replaced_rolled_back<W: Write>(to: &mut W, marks: &[usize; 7168]) -> io::Result<()> {
     let mut value = [0xEEu8; 7];
     let mut text = [0xEEu8; 1];
     let mut ends = [99usize; 1];
     let mut entries = [99usize; 2];
     let mut b = object(
+        to,
         new(false),
         marks,
         &value,
         &mut text,
         &mut ends,
         &mut entries,
-    );
+    )?;
     b = field(
+        to,
         b,
         marks,
         &mut value,
@@ -192,19 +228,37 @@ fn replaced_rolled_back(marks: &[usize; 7168]) {
         &mut entries,
         b"a",
         1,
-    );
-    b = list_rolled_back(b, marks, &value, &mut text, &mut ends, &mut entries, b"a");
-    b = closed(b, marks, &mut value, &text, &ends, &mut entries);
-    line(10, b, marks, &value, &text, &ends, &entries);
+    )?;
+    b = list_rolled_back(
+        to,
+        b,
+        marks,
+        &value,
+        &mut text,
+        &mut ends,
+        &mut entries,
+        b"a",
+    )?;
+    b = closed(to, b, marks, &mut value, &text, &ends, &mut entries)?;
+    line(to, 10, b, marks, &value, &text, &ends, &entries)
 }
 
-fn all_rolled_back(marks: &[usize; 7168]) {
+fn all_rolled_back<W: Write>(to: &mut W, marks: &[usize; 7168]) -> io::Result<()> {
     let mut value = [0xEEu8; 2];
     let mut text = [0xEEu8; 1];
     let mut ends = [99usize; 1];
     let mut entries = [99usize; 2];
-    let mut b = object(new(true), marks, &value, &mut text, &mut ends, &mut entries);
+    let mut b = object(
+        to,
+        new(true),
+        marks,
+        &value,
+        &mut text,
+        &mut ends,
+        &mut entries,
+    )?;
     b = field(
+        to,
         b,
         marks,
         &mut value,
@@ -213,9 +267,10 @@ fn all_rolled_back(marks: &[usize; 7168]) {
         &mut entries,
         b"b",
         1,
-    );
-    b = rolled_back(b, marks, &value, &text, &ends, &mut entries);
+    )?;
+    b = rolled_back(to, b, marks, &value, &text, &ends, &mut entries)?;
     b = top(
+        to,
         b,
         marks,
         &mut value,
@@ -223,17 +278,26 @@ fn all_rolled_back(marks: &[usize; 7168]) {
         &mut ends,
         &mut entries,
         Variant::Null,
-    );
-    line(11, b, marks, &value, &text, &ends, &entries);
+    )?;
+    line(to, 11, b, marks, &value, &text, &ends, &entries)
 }
 
-fn new_rolled_back(marks: &[usize; 7168]) {
+fn new_rolled_back<W: Write>(to: &mut W, marks: &[usize; 7168]) -> io::Result<()> {
     let mut value = [0xEEu8; 11];
     let mut text = [0xEEu8; 2];
     let mut ends = [99usize; 2];
     let mut entries = [99usize; 4];
-    let mut b = object(new(true), marks, &value, &mut text, &mut ends, &mut entries);
+    let mut b = object(
+        to,
+        new(true),
+        marks,
+        &value,
+        &mut text,
+        &mut ends,
+        &mut entries,
+    )?;
     b = field(
+        to,
         b,
         marks,
         &mut value,
@@ -242,9 +306,19 @@ fn new_rolled_back(marks: &[usize; 7168]) {
         &mut entries,
         b"b",
         1,
-    );
-    b = list_rolled_back(b, marks, &value, &mut text, &mut ends, &mut entries, b"a");
+    )?;
+    b = list_rolled_back(
+        to,
+        b,
+        marks,
+        &value,
+        &mut text,
+        &mut ends,
+        &mut entries,
+        b"a",
+    )?;
     b = field(
+        to,
         b,
         marks,
         &mut value,
@@ -253,12 +327,13 @@ fn new_rolled_back(marks: &[usize; 7168]) {
         &mut entries,
         b"c",
         2,
-    );
-    b = closed(b, marks, &mut value, &text, &ends, &mut entries);
-    line(12, b, marks, &value, &text, &ends, &entries);
+    )?;
+    b = closed(to, b, marks, &mut value, &text, &ends, &mut entries)?;
+    line(to, 12, b, marks, &value, &text, &ends, &entries)
 }
 
-fn top(
+fn top<W: Write>(
+    to: &mut W,
     b: Builder,
     marks: &[usize; 7168],
     value: &mut [u8],
@@ -266,12 +341,16 @@ fn top(
     ends: &mut [usize],
     entries: &mut [usize],
     x: Variant,
-) -> Builder {
-    after(append_value(b, marks, value, text, ends, entries, &mut [], false, b"", x))
+) -> io::Result<Builder> {
+    after(
+        to,
+        append_value(b, marks, value, text, ends, entries, &mut [], false, b"", x),
+    )
 }
 
 // An int8 field.
-fn field(
+fn field<W: Write>(
+    to: &mut W,
     b: Builder,
     marks: &[usize; 7168],
     value: &mut [u8],
@@ -280,69 +359,84 @@ fn field(
     entries: &mut [usize],
     name: &[u8],
     n: i8,
-) -> Builder {
+) -> io::Result<Builder> {
     let x = Variant::Int8(n);
-    after(append_value(b, marks, value, text, ends, entries, &mut [], true, name, x))
+    after(
+        to,
+        append_value(b, marks, value, text, ends, entries, &mut [], true, name, x),
+    )
 }
 
-fn list(
+fn list<W: Write>(
+    to: &mut W,
     b: Builder,
     marks: &[usize; 7168],
     value: &[u8],
     text: &mut [u8],
     ends: &mut [usize],
     entries: &mut [usize],
-) -> Builder {
-    after(new_list(b, marks, value, text, ends, entries, &mut [], false, b""))
+) -> io::Result<Builder> {
+    after(
+        to,
+        new_list(b, marks, value, text, ends, entries, &mut [], false, b""),
+    )
 }
 
-fn list_closed(
+fn list_closed<W: Write>(
+    to: &mut W,
     b: Builder,
     marks: &[usize; 7168],
     value: &mut [u8],
     text: &mut [u8],
     ends: &mut [usize],
     entries: &mut [usize],
-) -> Builder {
-    let opened = list(b, marks, value, text, ends, entries);
-    closed(opened, marks, value, text, ends, entries)
+) -> io::Result<Builder> {
+    let opened = list(to, b, marks, value, text, ends, entries)?;
+    closed(to, opened, marks, value, text, ends, entries)
 }
 
-fn object(
+fn object<W: Write>(
+    to: &mut W,
     b: Builder,
     marks: &[usize; 7168],
     value: &[u8],
     text: &mut [u8],
     ends: &mut [usize],
     entries: &mut [usize],
-) -> Builder {
-    after(new_object(b, marks, value, text, ends, entries, &mut [], false, b""))
+) -> io::Result<Builder> {
+    after(
+        to,
+        new_object(b, marks, value, text, ends, entries, &mut [], false, b""),
+    )
 }
 
-fn closed(
+fn closed<W: Write>(
+    to: &mut W,
     b: Builder,
     marks: &[usize; 7168],
     value: &mut [u8],
     text: &[u8],
     ends: &[usize],
     entries: &mut [usize],
-) -> Builder {
-    after(close(b, marks, value, text, ends, entries, &[]))
+) -> io::Result<Builder> {
+    after(to, close(b, marks, value, text, ends, entries, &[]))
 }
 
-fn rolled_back(
+fn rolled_back<W: Write>(
+    to: &mut W,
     b: Builder,
     marks: &[usize; 7168],
     value: &[u8],
     text: &[u8],
     ends: &[usize],
     entries: &mut [usize],
-) -> Builder {
-    after(rollback(b, marks, value, text, ends, entries, &[]))
+) -> io::Result<Builder> {
+    after(to, rollback(b, marks, value, text, ends, entries, &[]))
 }
 
 // A list opened under a name and rolled back.
-fn list_rolled_back(
+fn list_rolled_back<W: Write>(
+    to: &mut W,
     b: Builder,
     marks: &[usize; 7168],
     value: &[u8],
@@ -350,28 +444,32 @@ fn list_rolled_back(
     ends: &mut [usize],
     entries: &mut [usize],
     name: &[u8],
-) -> Builder {
-    let opened = after(new_list(b, marks, value, text, ends, entries, &mut [], true, name));
-    rolled_back(opened, marks, value, text, ends, entries)
+) -> io::Result<Builder> {
+    let opened = after(
+        to,
+        new_list(b, marks, value, text, ends, entries, &mut [], true, name),
+    )?;
+    rolled_back(to, opened, marks, value, text, ends, entries)
 }
 
 // The builder after a call.
-fn after(called: Called) -> Builder {
+fn after<W: Write>(to: &mut W, called: Called) -> io::Result<Builder> {
     let answer = called.answer;
     match answer {
         Answer::Done => {}
-        Answer::Refused(number) => refused(number),
+        Answer::Refused(number) => refused(to, number)?,
     }
-    called.builder
+    Ok(called.builder)
 }
 
-fn refused(number: u8) {
-    print::text(b"refused ");
-    io::print_decimal(STDOUT_FILENO, number as u64);
-    print::text(b"\n");
+fn refused<W: Write>(to: &mut W, number: u8) -> io::Result<()> {
+    print::text(to, b"refused ")?;
+    print::decimal(to, number as u64)?;
+    print::text(to, b"\n")
 }
 
-fn line(
+fn line<W: Write>(
+    to: &mut W,
     case: usize,
     b: Builder,
     marks: &[usize; 7168],
@@ -379,19 +477,20 @@ fn line(
     text: &[u8],
     ends: &[usize],
     entries: &[usize],
-) {
+) -> io::Result<()> {
     let mut out = [0xEEu8; 7];
     let finished = finish(b, marks, value, text, ends, entries, &[], &mut out);
     let answer = finished.answer;
     match answer {
         FinishAnswer::Written(n) => {
-            io::print_decimal(STDOUT_FILENO, case as u64);
-            print::text(b" ");
-            print::hex(value, finished.builder.counts.value);
-            print::text(b" ");
-            print::hex(&out, n);
-            print::text(b"\n");
+            print::decimal(to, case as u64)?;
+            print::text(to, b" ")?;
+            print::hex(to, value, finished.builder.counts.value)?;
+            print::text(to, b" ")?;
+            print::hex(to, &out, n)?;
+            print::text(to, b"\n")?;
         }
-        FinishAnswer::Refused(number) => refused(number),
+        FinishAnswer::Refused(number) => refused(to, number)?,
     }
+    Ok(())
 }

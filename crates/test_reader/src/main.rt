@@ -3,73 +3,84 @@
 #![tactic(auto)]
 
 use encoding::signed::mag;
-use libc::STDOUT_FILENO;
 use reader::{FieldPlace, FirstInteger, field, find_field, first_integer, read_pair};
+use std::io;
+use std::io::Write;
 
-fn main() {
+fn main(rt: HostRuntime) -> io::Result<()> {
+    let to = &mut io::writer(&rt);
     let object = b"\x02\x02\x01\x00\x02\x00\x04\x0c\x01\x0c\x02";
-    case(b"fields b, a", b"\x01\x02\x00\x01\x02ba", object);
-    case(b"equal names", b"\x01\x02\x00\x01\x02aa", object);
-    case(b"mark without order", b"\x11\x02\x00\x01\x02ba", object);
+    case(to, b"fields b, a", b"\x01\x02\x00\x01\x02ba", object)?;
+    case(to, b"equal names", b"\x01\x02\x00\x01\x02aa", object)?;
+    case(to, b"mark without order", b"\x11\x02\x00\x01\x02ba", object)?;
     let dated = b"\x02\x02\x00\x01\x00\x05\x07\x2c\x01\x00\x00\x00\x0c\x05";
-    case(b"a date, then an int8", b"\x11\x02\x00\x01\x02ab", dated);
     case(
+        to,
+        b"a date, then an int8",
+        b"\x11\x02\x00\x01\x02ab",
+        dated,
+    )?;
+    case(
+        to,
         b"a value that no offset names",
         b"\x01\x00\x00",
         b"\x02\x00\x01\x00",
-    );
+    )?;
     case(
+        to,
         b"an offset inside a value",
         b"\x11\x01\x00\x01a",
         b"\x02\x01\x00\x01\x02\x0c\x01",
-    );
-    case(b"no object", b"\x01\x00\x00", b"\x0c\x05");
-    case(b"bit 5, and no value", b"\x21\x00\x00", b"");
-    case(b"no value", b"\x01\x00\x00", b"");
+    )?;
+    case(to, b"no object", b"\x01\x00\x00", b"\x0c\x05")?;
+    case(to, b"bit 5, and no value", b"\x21\x00\x00", b"")?;
+    case(to, b"no value", b"\x01\x00\x00", b"")
 }
 
-fn case(label: &[u8], d: &[u8], v: &[u8]) {
-    print::text(label);
-    print::text(b": ");
-    decimal(read_pair(d, v) as u64);
-    named(v, find_field(d, v, b"a"));
-    number(first_integer(d, v));
-    print::text(b"\n");
+fn case<W: Write>(to: &mut W, label: &[u8], d: &[u8], v: &[u8]) -> io::Result<()> {
+    print::text(to, label)?;
+    print::text(to, b": ")?;
+    decimal(to, read_pair(d, v) as u64)?;
+    named(to, v, find_field(d, v, b"a"))?;
+    number(to, first_integer(d, v))?;
+    print::text(to, b"\n")
 }
 
-fn named(v: &[u8], place: FieldPlace) {
+fn named<W: Write>(to: &mut W, v: &[u8], place: FieldPlace) -> io::Result<()> {
     match place {
         FieldPlace::Part { start, end } => {
-            print::text(b", a from ");
-            decimal(start as u64);
-            print::text(b" to ");
-            decimal(end as u64);
-            print::text(b" is ");
+            print::text(to, b", a from ")?;
+            decimal(to, start as u64)?;
+            print::text(to, b" to ")?;
+            decimal(to, end as u64)?;
+            print::text(to, b" is ")?;
             let part = field(v, place);
-            print::hex(part, part.len());
+            print::hex(to, part, part.len())?;
         }
         FieldPlace::Missing => {
-            print::text(b", no a");
+            print::text(to, b", no a")?;
         }
         FieldPlace::Refused(_) => {}
     }
+    Ok(())
 }
 
-fn number(first: FirstInteger) {
+fn number<W: Write>(to: &mut W, first: FirstInteger) -> io::Result<()> {
     match first {
         FirstInteger::Found { id, number } => {
-            print::text(b", id ");
-            decimal(id as u64);
-            print::text(b" has ");
-            decimal(mag(number) as u64);
+            print::text(to, b", id ")?;
+            decimal(to, id as u64)?;
+            print::text(to, b" has ")?;
+            decimal(to, mag(number) as u64)?;
         }
         FirstInteger::Missing => {
-            print::text(b", no integer");
+            print::text(to, b", no integer")?;
         }
         FirstInteger::Refused(_) => {}
     }
+    Ok(())
 }
 
-fn decimal(n: u64) {
-    io::print_decimal(STDOUT_FILENO, n);
+fn decimal<W: Write>(to: &mut W, n: u64) -> io::Result<()> {
+    print::decimal(to, n)
 }

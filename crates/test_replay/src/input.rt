@@ -1,9 +1,10 @@
 // The sample, from standard input: bytes in hexadecimal, in fields with a comma or a line end behind each.
 use crate::parse::word;
-use libc::STDIN_FILENO;
+use std::io;
+use std::io::{ErrorKind, Read};
 
 // A script's first line: its mark, the number expected of its maker, how many calls it has, the storage that it is lent, and its floor.
-#[derive(Drop)]
+#[derive(Clone, Copy)]
 pub struct Start {
     pub unique: bool,
     pub number: u8,
@@ -18,7 +19,7 @@ pub struct Start {
 
 // A line's first field: the call, its argument, the number expected, whether a name is given, the size of the output or the place
 // that is altered, and the sizes of the name and the operand, which are the next two fields.
-#[derive(Drop)]
+#[derive(Clone, Copy)]
 pub struct Header {
     pub call: u8,
     pub argument: u8,
@@ -30,19 +31,19 @@ pub struct Header {
 }
 
 // How many scripts there are; where that is missing, one, which is not there.
-pub fn read_count() -> usize {
+pub fn read_count<R: Read>(from: &mut R) -> io::Result<usize> {
     let mut b = [0u8, 1];
-    field(&mut b, 2);
-    two(b[0], b[1])
+    field(from, &mut b, 2)?;
+    Ok(two(b[0], b[1]))
 }
 
 // Where a byte is missing, too large a storage.
-pub fn read_start() -> Start {
+pub fn read_start<R: Read>(from: &mut R) -> io::Result<Start> {
     let mut b = [0u8; 22];
-    if !field(&mut b, 22) {
+    if !field(from, &mut b, 22)? {
         b[4] = 255;
     }
-    Start {
+    Ok(Start {
         unique: b[0] == 1,
         number: b[1],
         calls: two(b[2], b[3]),
@@ -52,7 +53,7 @@ pub fn read_start() -> Start {
         entries: two(b[10], b[11]),
         undo: two(b[12], b[13]),
         floor: floor_of(&b),
-    }
+    })
 }
 
 fn floor_of(b: &[u8; 22]) -> usize {
@@ -60,13 +61,13 @@ fn floor_of(b: &[u8; 22]) -> usize {
 }
 
 // Where a byte is missing, there is no such call or too large an output is asked for, too large an operand.
-pub fn read_header() -> Header {
+pub fn read_header<R: Read>(from: &mut R) -> io::Result<Header> {
     let mut b = [0u8; 10];
-    let whole = field(&mut b, 10);
+    let whole = field(from, &mut b, 10)?;
     if !whole | (b[0] == 0) | (16 < b[0]) | (4 < b[4]) {
         b[8] = 255;
     }
-    Header {
+    Ok(Header {
         call: b[0],
         argument: b[1],
         number: b[2],
@@ -74,7 +75,7 @@ pub fn read_header() -> Header {
         size: two(b[4], b[5]),
         name: two(b[6], b[7]),
         operand: two(b[8], b[9]),
-    }
+    })
 }
 
 fn two(high: u8, low: u8) -> usize {
@@ -82,49 +83,62 @@ fn two(high: u8, low: u8) -> usize {
 }
 
 // A line's second and third fields: are they there?
-pub fn fields(name: &mut [u8], operand: &mut [u8], h: Header) -> bool {
-    if field(name, h.name) {
-        return field(operand, h.operand);
+pub fn fields<R: Read>(
+    from: &mut R,
+    name: &mut [u8],
+    operand: &mut [u8],
+    h: Header,
+) -> io::Result<bool> {
+    if field(from, name, h.name)? {
+        return field(from, operand, h.operand);
     }
-    false
+    Ok(false)
 }
 
 // The next n bytes, into `out`: are they there, with a comma or a line end behind them?
-fn field(out: &mut [u8], n: usize) -> bool {
+fn field<R: Read>(from: &mut R, out: &mut [u8], n: usize) -> io::Result<bool> {
     let mut i = 0;
     while i < n {
-        let b = byte();
+        let b = byte(from)?;
         if 255 < b {
-            return false;
+            return Ok(false);
         }
         if out.len() <= i {
-            return false;
+            return Ok(false);
         }
         out[i] = b as u8;
         i += 1;
     }
-    parted()
+    parted(from)
 }
 
-fn parted() -> bool {
+fn parted<R: Read>(from: &mut R) -> io::Result<bool> {
     let mut c = [b'0'];
-    io::read_full(STDIN_FILENO, &mut c);
-    (c[0] == b',') | (c[0] == b'\n')
+    fill(from, &mut c)?;
+    Ok((c[0] == b',') | (c[0] == b'\n'))
 }
 
 // The next byte, or 256.
-fn byte() -> usize {
+fn byte<R: Read>(from: &mut R) -> io::Result<usize> {
     let mut digits = [0u8; 2];
-    io::read_full(STDIN_FILENO, &mut digits);
+    fill(from, &mut digits)?;
     let high = digit(digits[0]);
     let low = digit(digits[1]);
     if 15 < high {
-        return 256;
+        return Ok(256);
     }
     if 15 < low {
-        return 256;
+        return Ok(256);
     }
-    high * 16 + low
+    Ok(high * 16 + low)
+}
+
+// Reads until `buf` is full or the input ends.
+fn fill<R: Read>(from: &mut R, buf: &mut [u8]) -> io::Result<()> {
+    match from.read_exact(buf) {
+        Err(e) if e.kind() == ErrorKind::UnexpectedEof => Ok(()),
+        done => done,
+    }
 }
 
 fn digit(c: u8) -> usize {

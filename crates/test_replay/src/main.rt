@@ -15,11 +15,12 @@ use builder_mut::lend;
 use compare::{Tally, answered, compared, counted, malformed, passed, started, used};
 use encoding::slices::min;
 use input::{Header, Start, fields, read_count, read_header, read_start};
-use libc::STDOUT_FILENO;
 use marks::NUMBERS;
 use parse::{call_of, uuid};
 use poke::{altered, overwrite, overwrite_mark};
 use semantics::Builder;
+use std::io;
+use std::io::{Read, Write};
 
 #[derive(Drop)]
 struct Replay {
@@ -27,15 +28,19 @@ struct Replay {
     tally: Tally,
 }
 
-fn main() {
+fn main(rt: HostRuntime) -> io::Result<()> {
+    let from = &mut rt.reader();
+    let to = &mut io::writer(&rt);
     let mut value = [0xEEu8; 2048];
     let mut text = [0xEEu8; 512];
     let mut ends = [99usize; 64];
     let mut entries = [99usize; 256];
     let mut undo = [99usize; 64];
     let mut marks = [99usize; NUMBERS];
-    let n = read_count();
+    let n = read_count(from)?;
     let t = scripts(
+        from,
+        to,
         n,
         &mut marks,
         &mut value,
@@ -43,16 +48,18 @@ fn main() {
         &mut ends,
         &mut entries,
         &mut undo,
-    );
-    io::print_decimal(STDOUT_FILENO, t.script as u64);
-    print::text(b" scripts, ");
-    io::print_decimal(STDOUT_FILENO, t.calls as u64);
-    print::text(b" calls, ");
-    io::print_decimal(STDOUT_FILENO, t.differences as u64);
-    print::text(b" differences\n");
+    )?;
+    print::decimal(to, t.script as u64)?;
+    print::text(to, b" scripts, ")?;
+    print::decimal(to, t.calls as u64)?;
+    print::text(to, b" calls, ")?;
+    print::decimal(to, t.differences as u64)?;
+    print::text(to, b" differences\n")
 }
 
-fn scripts(
+fn scripts<R: Read, W: Write>(
+    from: &mut R,
+    to: &mut W,
     n: usize,
     marks: &mut [usize; NUMBERS],
     value: &mut [u8],
@@ -60,7 +67,7 @@ fn scripts(
     ends: &mut [usize],
     entries: &mut [usize],
     undo: &mut [usize],
-) -> Tally {
+) -> io::Result<Tally> {
     let mut t = Tally {
         script: 0,
         call: 0,
@@ -71,12 +78,14 @@ fn scripts(
     let mut left = n;
     while 0 < left {
         left -= 1;
-        t = script(t, marks, value, text, ends, entries, undo);
+        t = script(from, to, t, marks, value, text, ends, entries, undo)?;
     }
-    t
+    Ok(t)
 }
 
-fn script(
+fn script<R: Read, W: Write>(
+    from: &mut R,
+    to: &mut W,
     t: Tally,
     marks: &mut [usize; NUMBERS],
     value: &mut [u8],
@@ -84,12 +93,12 @@ fn script(
     ends: &mut [usize],
     entries: &mut [usize],
     undo: &mut [usize],
-) -> Tally {
+) -> io::Result<Tally> {
     if t.malformed {
-        return t;
+        return Ok(t);
     }
-    let s = read_start();
-    let r = begun(t, s);
+    let s = read_start(from)?;
+    let r = begun(to, t, s)?;
     let v = min(s.value, value.len());
     let x = min(s.text, text.len());
     let k = min(s.ends, ends.len());
@@ -97,9 +106,11 @@ fn script(
     let u = min(s.undo, undo.len());
     let short = (v < s.value) | (x < s.text) | (k < s.ends);
     if short | (e < s.entries) | (u < s.undo) {
-        return malformed(r.tally);
+        return malformed(to, r.tally);
     }
     run(
+        from,
+        to,
         r,
         s.calls,
         &mut value[0..v],
@@ -111,14 +122,14 @@ fn script(
     )
 }
 
-fn begun(t: Tally, s: Start) -> Replay {
+fn begun<W: Write>(to: &mut W, t: Tally, s: Start) -> io::Result<Replay> {
     let m = with_floor(s.unique, s.floor);
     let a = m.answer;
     let b = m.builder;
-    Replay {
+    Ok(Replay {
         builder: b,
-        tally: answered(started(t), s.number, number_of(a)),
-    }
+        tally: answered(to, started(t), s.number, number_of(a))?,
+    })
 }
 
 fn number_of(a: Answer) -> u8 {
@@ -128,7 +139,9 @@ fn number_of(a: Answer) -> u8 {
     }
 }
 
-fn run(
+fn run<R: Read, W: Write>(
+    from: &mut R,
+    to: &mut W,
     begun: Replay,
     n: usize,
     value: &mut [u8],
@@ -137,18 +150,20 @@ fn run(
     entries: &mut [usize],
     undo: &mut [usize],
     marks: &mut [usize; NUMBERS],
-) -> Tally {
+) -> io::Result<Tally> {
     let mut r = begun;
     let mut left = n;
     while 0 < left {
         left -= 1;
-        r = next(r, marks, value, text, ends, entries, undo);
+        r = next(from, to, r, marks, value, text, ends, entries, undo)?;
     }
-    r.tally
+    Ok(r.tally)
 }
 
 // The next line.
-fn next(
+fn next<R: Read, W: Write>(
+    from: &mut R,
+    to: &mut W,
     r: Replay,
     marks: &mut [usize; NUMBERS],
     value: &mut [u8],
@@ -156,33 +171,36 @@ fn next(
     ends: &mut [usize],
     entries: &mut [usize],
     undo: &mut [usize],
-) -> Replay {
+) -> io::Result<Replay> {
     if r.tally.malformed {
-        return r;
+        return Ok(r);
     }
     let mut name = [0u8; 512];
     let mut operand = [0u8; 2048];
-    let h = read_header();
-    if !fields(&mut name, &mut operand, h) {
-        return stopped(r);
+    let h = read_header(from)?;
+    if !fields(from, &mut name, &mut operand, h)? {
+        return stopped(to, r);
     }
     let n = min(h.name, 512);
     let m = min(h.operand, 2048);
     let name = &name[0..n];
     let operand = &operand[0..m];
-    done(r, marks, value, text, ends, entries, undo, h, name, operand)
+    done(
+        to, r, marks, value, text, ends, entries, undo, h, name, operand,
+    )
 }
 
-fn stopped(r: Replay) -> Replay {
+fn stopped<W: Write>(to: &mut W, r: Replay) -> io::Result<Replay> {
     let b = r.builder;
-    Replay {
+    Ok(Replay {
         builder: b,
-        tally: malformed(r.tally),
-    }
+        tally: malformed(to, r.tally)?,
+    })
 }
 
 // A poke, a look at the record, or a call.
-fn done(
+fn done<W: Write>(
+    to: &mut W,
     r: Replay,
     marks: &mut [usize; NUMBERS],
     value: &mut [u8],
@@ -193,16 +211,18 @@ fn done(
     h: Header,
     name: &[u8],
     operand: &[u8],
-) -> Replay {
+) -> io::Result<Replay> {
     let c = h.call;
     match c {
         11 => {
             overwrite(value, text, ends, entries, undo, h, operand);
             overwrite_mark(marks, h, operand);
-            poked(r, h, operand)
+            Ok(poked(r, h, operand))
         }
-        12 => looked(r, value, h, name, operand),
-        _ => called(r, marks, value, text, ends, entries, undo, h, name, operand),
+        12 => looked(to, r, value, h, name, operand),
+        _ => called(
+            to, r, marks, value, text, ends, entries, undo, h, name, operand,
+        ),
     }
 }
 
@@ -214,24 +234,32 @@ fn poked(r: Replay, h: Header, operand: &[u8]) -> Replay {
 }
 
 // The expected counts stand in the name's place, and the expected value in the operand's.
-fn looked(r: Replay, value: &[u8], h: Header, counts: &[u8], expected: &[u8]) -> Replay {
+fn looked<W: Write>(
+    to: &mut W,
+    r: Replay,
+    value: &[u8],
+    h: Header,
+    counts: &[u8],
+    expected: &[u8],
+) -> io::Result<Replay> {
     let b = r.builder;
     let c = b.counts;
     let n = c.value;
-    let t = used(passed(r.tally), c, counts);
+    let t = used(to, passed(r.tally), c, counts)?;
     if h.argument == 0 {
-        return Replay {
+        return Ok(Replay {
             builder: b,
             tally: t,
-        };
+        });
     }
-    Replay {
+    Ok(Replay {
         builder: b,
-        tally: compared(t, b"value", value, n, expected),
-    }
+        tally: compared(to, t, b"value", value, n, expected)?,
+    })
 }
 
-fn called(
+fn called<W: Write>(
+    to: &mut W,
     r: Replay,
     marks: &mut [usize; NUMBERS],
     value: &mut [u8],
@@ -242,7 +270,7 @@ fn called(
     h: Header,
     name: &[u8],
     operand: &[u8],
-) -> Replay {
+) -> io::Result<Replay> {
     let mut space = [0xEEu8; 1024];
     let size = min(h.size, 1024);
     let call = call_of(h, operand);
@@ -253,16 +281,17 @@ fn called(
     );
     let b = d.builder;
     let n = b.counts.value;
-    let t = answered(counted(r.tally), h.number, d.number);
-    let u = finished(t, h, value, n, out, d.written, name, operand);
-    Replay {
+    let t = answered(to, counted(r.tally), h.number, d.number)?;
+    let u = finished(to, t, h, value, n, out, d.written, name, operand)?;
+    Ok(Replay {
         builder: b,
         tally: u,
-    }
+    })
 }
 
 // Of a finish that must be carried out, the expected dictionary stands in the name's place, and the expected value in the operand's.
-fn finished(
+fn finished<W: Write>(
+    to: &mut W,
     t: Tally,
     h: Header,
     value: &[u8],
@@ -271,10 +300,10 @@ fn finished(
     written: usize,
     dictionary: &[u8],
     expected: &[u8],
-) -> Tally {
+) -> io::Result<Tally> {
     if (h.call != 10) | (h.number != 0) {
-        return t;
+        return Ok(t);
     }
-    let u = compared(t, b"value", value, n, expected);
-    compared(u, b"dictionary", out, written, dictionary)
+    let u = compared(to, t, b"value", value, n, expected)?;
+    compared(to, u, b"dictionary", out, written, dictionary)
 }

@@ -4,9 +4,9 @@
 #     tools/edits.sh [NAME..]
 #
 # NAME is a crate; without one all that have edits are tried. A line an edit, then 'N refused, M not'; the status is 1 where M is not 0.
-# Not refused are: an edit with which the crate is still proved, one whose lines are gone from the source, one whose crate is not
-# proved without it, and one whose log shows no more than a proof file that has become unfit. The copy stands below TMPDIR and takes
-# along what target/ has, so that nothing is proved again. RT_JOBS edits are tried at a time.
+# Not refused are: an edit with which the crate is still proved, a bad one (its lines are gone from the source, or it cannot be compiled or
+# read), one that was not tried to its end, one whose crate is not proved without it, and one refused by no more than a proof file that has
+# become unfit. The copy stands below TMPDIR; rt begins there with what checks on this machine kept. RT_JOBS edits are tried at a time.
 set -eu
 root=$(cd "$(dirname "$0")/.." && pwd -P)
 cd "$root"
@@ -18,34 +18,32 @@ done
 copy=$(mktemp -d)
 trap 'rm -rf "$copy"' EXIT
 trap 'exit 130' INT TERM
-mkdir "$copy/target"
-cp -R crates crates.txt "$copy"
-for part in rlib stamp; do [ ! -d "target/$part" ] || cp -R "target/$part" "$copy/target"; done
-
-# A log shows more than an unfit proof file where it has a fact that was refused, or an error other than a name that is gone.
-unfit() {
-    grep -q 'that can be named from here' "$1" || return 1
-    ! grep -E ': error: |it is not proved that|`search` does not close' "$1" |
-        grep -vE 'that can be named from here|was not admitted' | grep -q .
-}
+tar -cf - --exclude=out crates crates.txt | tar -xf - -C "$copy"
+log=$copy/log
 
 refused=0 not=0
 for name in "$@"; do
-    # rt tries the edits of all crates that NAME is built on
-    rm -rf "$copy"/crates/*/must-fail
+    rm -rf "$copy/crates/$name/must-fail"
     cp -R "edits/$name" "$copy/crates/$name/must-fail"
-    (cd "$copy" && rt must-fail "$name" 2>&1) | grep --line-buffered -E '^rt: (must-fail |.* NOT PROVED)' || true
+    if (cd "$copy/crates/$name" && rt check) >"$log" 2>&1; then
+        (cd "$copy" && rt must-fail "$name" 2>&1) | tee "$log" | grep --line-buffered -E '^rt: must-fail ' || true
+    else
+        tail -n 20 "$log"
+        echo "rt: $name NOT PROVED"
+        : >"$log"
+    fi
     for edit in "edits/$name"/*.edit; do
-        tried=$copy/target/must-fail/$name/$(basename "$edit" .edit)
-        if [ "$(cat "$tried.res" 2>/dev/null)" != refused ]; then
-            not=$((not + 1))
-            echo "$edit: not refused"
-        elif unfit "$tried/.log"; then
-            not=$((not + 1))
-            echo "$edit: refused only since a proof file became unfit"
-        else
-            refused=$((refused + 1))
-        fi
+        said=$(grep -F "rt: must-fail $name/${edit##*/}: " "$log" || true)
+        case $said in
+            *": refused, as it must be (only because a proof file names"*)
+                not=$((not + 1))
+                echo "$edit: refused only since a proof file became unfit" ;;
+            *": refused, as it must be"*)
+                refused=$((refused + 1)) ;;
+            *)
+                not=$((not + 1))
+                echo "$edit: not refused" ;;
+        esac
     done
 done
 echo "$refused refused, $not not"

@@ -121,15 +121,7 @@ def pair(rng, scalar, pool, bad):
     return dictionary, value, names
 
 
-def text(rng, data):
-    """A text's bytes, in either form."""
-    if len(data) < 64 and rng.random() < 0.7:
-        return bytes([4 * len(data) + 1]) + data
-    return b"\x40" + len(data).to_bytes(4, "little") + data
-
-
 def call(rng, verb, dictionary, value, name):
-    """The call's words, in any order; the name is that of a field, or the text to be found."""
-    key = {"field": "name", "find": "tag"}.get(verb)
-    words = [f"value={value.hex()}", f"dict={dictionary.hex()}", *[f"{key}={name.hex()}"] * bool(key)]
+    """The call's words, in any order."""
+    words = [f"value={value.hex()}", f"dict={dictionary.hex()}", *[f"name={name.hex()}"] * (verb == "field")]
     return (verb, *rng.sample(words, len(words)))

@@ -1,12 +1,13 @@
 #!/usr/bin/env python3
-"""Says where each fact stands at each need of a function: how many `.before` lie between the need's `c` and the fact.
+"""Says which facts stand at each goal of a function, and how many steps back: how many `.before` lie between the goal's `c` and the fact.
 
-    rt goals NAME && python3 tools/paths.py NAME MODULE/FUNCTION [ROOT]
+    (cd crates/NAME && rt check --generated FOLDER --start MODULE::FUNCTION); python3 tools/paths.py FOLDER MODULE/FUNCTION
 
-A line a need: its name, the type of its `c`, then `DEPTH:FACTS`, from the last step back to the start. At depth 2, `less` is
-`c .before .before .less`. Steps that say only what kind of thing a value is are left out. `rt goals` takes some minutes; NAME must have been
-given its sources and contracts, not its proofs."""
+FOLDER is a new one, and a method is TYPE/FUNCTION. A line a goal: its name, the type of its `c`, then `DEPTH:FACTS`, from the last step back
+to the start. `c.less` is the last fact of that name; one at depth 2 that a later step hides is `c.before.before.less`. Steps that say only what
+kind of thing a value is are left out."""
 import glob
+import os
 import re
 import sys
 
@@ -16,38 +17,42 @@ def chain(path):
     steps, needs, step = {}, {}, None
     lines = open(path, encoding='utf-8').read().split('\n')
     for i, line in enumerate(lines):
-        if found := re.match(r'\s*pub record (\S+) : Type', line):
+        if found := re.match(r'\s*pub record (\S+)', line):
             step = steps.setdefault(found[1], [])
+        elif not line.strip():
+            step = None
         elif step is not None and (found := re.match(r'\s*pub (\S+) : (\S+)', line)):
             step.append(found.groups())
-        elif found := re.match(r'\s*(Need-\S+) =$', line):
-            first = re.search(r'\(c : (\S+)\)', ' '.join(lines[i + 1:i + 3]))
+        elif found := re.match(r'\s*(Need-\S+) =', line):
+            first = re.search(r'\(c : (\S+)\)', ' '.join(lines[i:i + 3]))
             if first:
                 needs[found[1]] = first[1]
     return steps, needs
 
 
+def goals(path):
+    """The goals as proofs name them, each with its need."""
+    return re.findall(r'\bthe-fitted-(\S+) =\s+Lts\.(Need-\S+)', open(path, encoding='utf-8').read())
+
+
 def main():
-    if len(sys.argv) not in (3, 4):
+    if len(sys.argv) != 3:
         sys.exit(__doc__)
-    name, function = sys.argv[1:3]
-    root = sys.argv[3] if len(sys.argv) == 4 else '.'
-    paths = [path for path in glob.glob(f'{root}/target/goals/{name}/*proofs/proofs/**/Lts.antt', recursive=True)
-             if path.endswith(f'/{function}/Lts.antt')]
+    folder, function = sys.argv[1:]
+    paths = [path for path in glob.glob(f'{folder}/**/Lts.antt', recursive=True) if path.endswith(f'/{function}/Lts.antt')]
     if not paths:
-        sys.exit(f'paths.py: no goals of {function}: run `rt goals {name}` first')
+        sys.exit(f'paths.py: no goals of {function} in {folder}: run `rt check --generated {folder} --start ..` in the crate first')
     steps, needs = chain(paths[0])
-    for need, step in needs.items():
-        if 'same-length' in need:
-            continue
-        facts, depth, first = [], 0, step
+    for goal, need in goals(os.path.join(os.path.dirname(paths[0]), 'Goals.antt')):
+        facts, depth, step = [], 0, needs.get(need)
+        first = step or '-'
         while step in steps:
-            told = [field for field, _ in steps[step] if field != 'before' and not re.search(r'known\d*$', field)]
+            told = [field for field, _ in steps[step] if field != 'before' and not re.search(r'(^|_)known\b', field)]
             if told:
                 facts.append(f'{depth}:{",".join(told)}')
             step = next((kind for field, kind in steps[step] if field == 'before'), None)
             depth += 1
-        print(need, first, ' '.join(facts))
+        print(goal, first, ' '.join(facts))
 
 
 if __name__ == '__main__':

@@ -28,11 +28,8 @@ FLOORS = (1, 1, 1, 1, 1, 1, 1, 2, 3, 4)
 BAD_FLOORS = (0, 5, 6, 256, 2**32 + 1, 2**64 - 1)
 CIVIL = ("ymd", "ymdts", "ymdtsntz")
 BESIDE = {"days": "A2", "civil": "A2", "packdec": "A4", "readdec": "A4",      # the calls that need no builder
-          "batchstart": "A7", "batchadd": "A7", "batchread": "A7", "read": "A6", "field": "A6", "firstint": "A6", "find": "A12",
-          "canon": "A11"}
-READING = tuple(verb for verb, request in BESIDE.items() if request in ("A6", "A12", "A11"))
-TEXTS = (b"", b"x", b"tag", b"tags", "ä€".encode(), b"record", b", element 0", b"t" * 63, b"t" * 64)      # to be found
-WORDY = [b", element 0", b"record", b"1 bytes a", b", field 1 bytes a", b"", b"7", b"a"]
+          "batchstart": "A7", "batchadd": "A7", "batchread": "A7", "read": "A6", "field": "A6", "firstint": "A6"}
+READING = tuple(verb for verb, request in BESIDE.items() if request == "A6")
 LEAVES = (*KINDS, *("int8", "int16", "int32", "int64") * 3)
 YEARS = (1, 2, 3, 4, 5, 100, 400, 1582, 1600, 1899, 1900, 1969, 1970, 1972, 2000, 2023, 2024, 2100, 9996, 9998, 9999)
 SPAN = (-719_162, 2_932_896)          # the days of the years 1 to 9999
@@ -378,26 +375,9 @@ class Run:
             value, dictionary = (bytes.fromhex(word.split("=")[1]) for word in last.split()[1:])
             value, names = layouts.altered(self.rng, value) if bad else value, self.pool
         else:
-            texts = self.rng.sample(TEXTS, 3) if verb == "find" else ()
-            leaf = lambda: layouts.text(self.rng, self.rng.choice(texts)) if texts and self.chance(0.7) else self.leaf(bad)
-            dictionary, value, names = layouts.pair(self.rng, leaf, self.pool, bad)
-            names = [*names, *texts * 5]
+            dictionary, value, names = layouts.pair(self.rng, lambda: self.leaf(bad), self.pool, bad)
         name = self.rng.choice([*names, *names, self.rng.choice(MIXED), self.rng.choice(BAD_TEXTS)])
-        call = layouts.call(self.rng, verb, dictionary, value, name)
-        answer = self.say(call)
-        if answer.startswith("ok words=") and self.chance(0.5):
-            self.say((*call, f"out={self.near(len(answer) // 2 - 4)}"))
-        if verb == "canon" and answer.startswith("ok value="):
-            new = answer.split()[1:]
-            self.say((verb, *new))
-            if self.chance(0.5):
-                sizes = [len(word.split("=")[1]) // 2 for word in new]
-                self.say((*call, f"outvalue={self.near(sizes[0])}", f"outdict={self.near(sizes[1])}"))
-        return answer
-
-    def near(self, size):
-        """An output's size: just enough, mostly, or a byte too short or too long."""
-        return self.rng.choice((size, size, size - 1, size + 1, self.rng.randrange(size)))
+        return self.say(layouts.call(self.rng, verb, dictionary, value, name))
 
     def leaf(self, bad):
         """A scalar's bytes; now and then those of one that is refused."""
@@ -704,13 +684,12 @@ def marks(new, number, short):
 
 def records(new, number, short):
     """Records read, right and wrong ones; what the run yields among them."""
-    run = new(pool=new.rng.choice((MIXED, MIXED[:4], [b"", b"a"], WORDY)))
+    run = new(pool=new.rng.choice((MIXED, MIXED[:4], [b"", b"a"])))
     for _ in range(run.rng.randrange(1, 12)):
         run.step()
     run.wind_up()
-    asked = [verb for verb in READING if verb in run.asked]
-    for _ in range(20 if asked else 0):
-        run.read(run.rng.choice(asked), run.chance(0.5))
+    for _ in range(20 if "A6" in new.model.on else 0):
+        run.read(run.rng.choice(READING), run.chance(0.5))
     return run
 
 

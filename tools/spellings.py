@@ -99,13 +99,11 @@ def scalar(rng, model, script):
 
 def setting(rng, key):
     known = {"file": FILES, "value": PARTS, "dict": PARTS}.get(key, ["61"])
-    return f"{key}=" + (size(rng) if key.startswith("out") else rng.choice([*known, some_bytes(rng)]))
+    return f"{key}=" + (size(rng) if key == "out" else rng.choice([*known, some_bytes(rng)]))
 
 
 BATCH = (("batchstart", ["out"]), ("batchadd", ["file", "dict", "value", "out"]), ("batchread", ["file"]))
 READING = (("read", ["value", "dict"]), ("field", ["name", "value", "dict"]), ("firstint", ["value", "dict"]))
-FINDING = (("find", ["tag", "value", "dict", "out"]),)
-FORMING = (("canon", ["value", "dict", "outvalue", "outdict"]),)
 
 
 def with_settings(rng, calls):
@@ -121,9 +119,8 @@ def beside(rng, model):
     dates = [" ".join(["days", *date(rng)]), "civil " + rng.choice(["-719_162", "+2932896", "2932897", whole(rng)])]
     out = rng.choice(["", " out=" + size(rng)])
     decimals = [f"packdec {scale(rng)} {whole(rng)}{out}", f"readdec {scale(rng)} {packed(rng)}"]
-    batches, records, paths, forms = ([with_settings(rng, calls) for _ in range(2)] for calls in (BATCH, READING, FINDING, FORMING))
+    batches, records = ([with_settings(rng, calls) for _ in range(2)] for calls in (BATCH, READING))
     asked = dates * ("A2" in model.on) + decimals * ("A4" in model.on) + batches * ("A7" in model.on) + records * ("A6" in model.on)
-    asked += paths * ("A12" in model.on) + forms * ("A11" in model.on)
     return [seldom(rng, [rng.choice(asked) + " 1", rng.choice(asked).split()[0]], asked)] if asked else []
 
 

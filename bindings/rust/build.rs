@@ -1,8 +1,9 @@
 //! Finds the archives of the proved calls (crates `ffi` and `reader_ffi` of the repository), copies them into OUT_DIR and links them.
 //!
-//! They are `libffi.a` and `libreader_ffi.a` in the folder `VARIANT_STATICLIB`, else in the repository's `target/staticlib`. Where one is
-//! missing there, or older than a source, `rt staticlib` makes it: that proves its crate and all that it stands on, which takes minutes from
-//! nothing. The copies are what is linked, since `rt ci` removes the repository's `target`.
+//! They are `libffi.a` and `libreader_ffi.a` in the folder `VARIANT_STATICLIB`, else `crates/ffi/out/libffi.a` and
+//! `crates/reader_ffi/out/libreader_ffi.a` of the repository. Where one is missing there, or older than a source, `rt lib` in its crate's folder
+//! makes it: that proves its crate and all that it stands on, which takes minutes from nothing. The copies are what is linked, since `rt ci`
+//! removes the archives.
 use std::path::{Path, PathBuf};
 use std::process::{exit, Command};
 use std::time::SystemTime;
@@ -26,7 +27,10 @@ fn main() {
         println!("cargo:rerun-if-changed={}", library.display());
         // under another name, since systems have a libffi of their own
         if let Err(e) = fs::copy(&library, out.join(format!("libvariant_{name}.a"))) {
-            fail(&format!("{}: {e}. `rt staticlib {name}` writes it; VARIANT_STATICLIB names its folder", library.display()));
+            fail(&format!(
+                "{}: {e}. `rt lib` in crates/{name} writes it; VARIANT_STATICLIB names a folder that holds both archives",
+                library.display()
+            ));
         }
         println!("cargo:rustc-link-lib=static=variant_{name}");
     }
@@ -39,13 +43,14 @@ fn fail(message: &str) -> ! {
 
 /// The repository's archive of a crate, made where it is missing or older than the newest source.
 fn made(root: &Path, name: &str, newest: Option<SystemTime>) -> PathBuf {
-    let library = root.join(format!("target/staticlib/lib{name}.a"));
+    let folder = root.join("crates").join(name);
+    let library = folder.join(format!("out/lib{name}.a"));
     if changed(&library).is_some() && changed(&library) >= newest {
         return library;
     }
-    match Command::new("rt").args(["staticlib", name]).current_dir(root).output() {
+    match Command::new("rt").arg("lib").current_dir(&folder).output() {
         Ok(o) if o.status.success() => library,
-        Ok(o) => fail(&format!("`rt staticlib {name}` failed:\n{}{}", text(&o.stdout), text(&o.stderr))),
+        Ok(o) => fail(&format!("`rt lib` in crates/{name} failed:\n{}{}", text(&o.stdout), text(&o.stderr))),
         Err(e) => fail(&format!(
             "{} is missing or older than a source, and `rt` (the Rattle kit), which makes it, cannot be run: {e}",
             library.display()

@@ -22,9 +22,7 @@
 //! `crates/reader_ffi`); this crate only hands slices to them, walks the parts of a record that they accepted, and lists it for people to read.
 mod batch;
 mod builder;
-mod canonical;
 mod date;
-mod find;
 mod listing;
 mod packed;
 mod record;
@@ -36,9 +34,7 @@ mod words;
 
 pub use batch::{batch_add, batch_start, BatchReader, BatchRecord, BatchWriter};
 pub use builder::{Buffer, Storage, VariantBuilder};
-pub use canonical::{canonical, write_canonical};
 pub use date::{Civil, Date};
-pub use find::{find, write_path, Path, Step};
 pub use listing::listing;
 pub use packed::write_packed_decimal;
 pub use record::{find_field, find_first_integer, Record};

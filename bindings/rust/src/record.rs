@@ -3,7 +3,7 @@
 //! Judging, a field by its name and the first integer are proved calls. The iterators are not: they walk bytes that were judged, and over any
 //! others they would give wrong parts, never panic.
 use crate::builder::answer;
-use crate::{find, sys, Path, Refusal};
+use crate::{sys, Refusal};
 use std::ops::Range;
 
 /// A dictionary and one value over its names, both accepted.
@@ -59,18 +59,6 @@ impl<'a> Record<'a> {
     /// object. A date is no integer.
     pub fn first_integer(&self) -> Option<(usize, i64)> {
         find_first_integer(self.metadata, self.value).ok()?
-    }
-
-    /// The path to the first live text equal to this one, in order of data; refused with 25 where no live text is.
-    ///
-    /// ```
-    /// # use variant_writer::Record;
-    /// let list = Record::read(&[1, 0, 0], &[3, 2, 0, 1, 3, 0, 5, b'x'])?;
-    /// assert_eq!(list.find(b"x")?.words(), b"record, element 1");
-    /// # Ok::<(), variant_writer::Refusal>(())
-    /// ```
-    pub fn find(&self, text: &[u8]) -> Result<Path, Refusal> {
-        find(self.metadata, self.value, text)
     }
 
     /// The dictionary's names, by their ids.

@@ -54,7 +54,7 @@ rows! {
     11 TooDeep "64 containers are open"
     12 NamesFull "no room for a new name: the name table or the name bytes are full"
     13 EntriesFull "no room for a new field of an object: the entries are full"
-    14 ValueFull "no room for the value or the header in the value bytes, for packed decimal, words or a value in their output, or for a batch's record in its file or count"
+    14 ValueFull "no room for the value or the header in the value bytes, for packed decimal in its output, or for a batch's record in its file or count"
     15 NoValue "no value was written"
     16 OutputFull "the dictionary does not fit its output"
     17 OutOfCalendar "a date that is not in the calendar, years 1 to 9999, or with it a time outside the day"
@@ -65,7 +65,6 @@ rows! {
     22 NoMark "a seventeenth mark in a container, a mark outside any, or a return to one that is not set"
     23 UndoFull "no room for the offset of a field that is replaced under a mark: the undo records are full"
     24 FloorOutOfRange "a floor for widths that is not 1 to 4 bytes: no builder is made"
-    25 NotFound "a text that no live one equals"
     26 BadLength "small values of another length than 1, 2 or 3 bytes"
 }
 

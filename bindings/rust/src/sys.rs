@@ -189,27 +189,6 @@ extern "C" {
         number: *mut i64,
     ) -> u8;
 
-    /// 19 or 20 as above; else the words of the path to the first live text equal to `text`, in order of data, at the start of `out`, and how many
-    /// bytes they have into `written`. A text that no live one equals is refused with 25, then words that do not fit with 14.
-    pub fn variant_find(
-        metadata: *const u8, metadata_len: usize,
-        value: *const u8, value_len: usize,
-        text: *const u8, text_len: usize,
-        out: *mut u8, out_len: usize,
-        written: *mut usize,
-    ) -> u8;
-
-    /// 19 or 20 as above; else the one pair for the live tree of the record at the starts of the two outputs, and how many bytes dictionary and value
-    /// have. A value that does not fit its output is refused with 14, then a dictionary that does not with 16.
-    pub fn variant_canonical(
-        metadata: *const u8, metadata_len: usize,
-        value: *const u8, value_len: usize,
-        new_metadata: *mut u8, new_metadata_len: usize,
-        new_value: *mut u8, new_value_len: usize,
-        metadata_written: *mut usize,
-        value_written: *mut usize,
-    ) -> u8;
-
     /// Every value of `length` bytes, 1 to 3, that is read over the dictionary 01 00 00, as a batch file at the start of `out`, its length into
     /// `written`. Any other length is refused with 26, then an output too short with 14.
     pub fn variant_write_small_values(

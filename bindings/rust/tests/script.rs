@@ -224,50 +224,8 @@ fn records() {
     assert_eq!(answers(&format!("new floor=0\n{asked}close\nnew\n{asked}")), format!("refused 24\n{told}no builder\nnew\n{told}"));
 }
 
-/// They need no builder. The object has b, a list of x and y, and a, an x that lies behind it.
-#[test]
-fn paths() {
-    let pair = "dict=01020001026261 value=0202010009000b0302000204057805790578";
-    let cases = [
-        (format!("find tag=78 {pair}"), "ok words=7265636f72642c206669656c64203120627974657320622c20656c656d656e742030"),
-        (format!("find {pair} tag=79"), "ok words=7265636f72642c206669656c64203120627974657320622c20656c656d656e742031"),
-        (format!("find tag=78 {pair} out=34"), "ok words=7265636f72642c206669656c64203120627974657320622c20656c656d656e742030"),
-        (format!("find tag=78 out=33 {pair}"), "refused 14"),
-        (format!("find tag=61 out=0 {pair}"), "refused 25"),
-        (format!("find {pair} tag"), "refused 25"),
-        (format!("find tag=78 {pair}00 out=0"), "refused 20"),
-        (format!("find tag=78 {pair}00 dict=0103"), "refused 19"),
-        ("find value=01 dict=010000".into(), "ok words=7265636f7264"),
-        ("find".into(), "refused 19"),
-    ];
-    let asked: String = cases.iter().map(|(line, _)| format!("{line}\n")).collect();
-    let told: String = cases.iter().map(|(_, answer)| format!("{answer}\n")).collect();
-    assert_eq!(answers(&asked), told);
-}
-
-/// They need no builder. The object has a replaced number, b, a long text, and a, a short one; the dictionary has c, too.
-#[test]
-fn one_form() {
-    let pair = "dict=010300010203636261 value=0202020108020a0c014001000000780579";
-    let new = "ok value=0202000100020405790578 dict=11020001026162";
-    let cases = [
-        (format!("canon {pair}"), new),
-        (format!("canon {pair} outvalue=11 outdict=7"), new),
-        (format!("canon outdict=6 {pair}"), "refused 16"),
-        (format!("canon outvalue=10 outdict=6 {pair}"), "refused 14"),
-        (format!("canon {pair} outdict=0 outvalue=0"), "refused 14"),
-        (format!("canon {pair}00 outvalue=0"), "refused 20"),
-        (format!("canon {pair} dict=0103"), "refused 19"),
-        ("canon value=00 dict=110000".into(), "ok value=00 dict=010000"),
-        ("canon value=00 dict=110000 outdict=2".into(), "refused 16"),
-        ("canon".into(), "refused 19"),
-    ];
-    let asked: String = cases.iter().map(|(line, _)| format!("{line}\n")).collect();
-    let told: String = cases.iter().map(|(_, answer)| format!("{answer}\n")).collect();
-    assert_eq!(answers(&asked), told);
-}
-
-/// They need no builder. The digests are the model's.
+/// They need no builder.
+/// The digests are the model's.
 #[test]
 fn small_values() {
     let script = "small 1\nsmall 2\nsmall 3\nsmall 0\nsmall 4\nsmall 1 out=48\nsmall 1 out=49\nsmall 3 out=1173830\nsmall 4 out=0\n";
@@ -401,14 +359,6 @@ field key=61
 field name=61=61
 firstint dict=6g
 firstint out=9
-find name=61
-find out=
-find out
-find tag=6
-canon out=9
-canon outvalue=
-canon outdict
-canon tag=61
 append name=6 null
 open
 open 61 list

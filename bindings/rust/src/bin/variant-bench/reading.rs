@@ -1,9 +1,9 @@
-//! How long it takes to judge records, as `Record::read` does, and to search them for a text that they do not have.
+//! How long it takes to judge records, as `Record::read` does.
 use crate::cases::{names, scans, Order};
 use crate::{plain::PlainBuilder, row, Case, Row, BLOCK, RECORDS};
 use std::hint::black_box;
 use std::time::Instant;
-use variant_writer::{find, Record, Refusal};
+use variant_writer::Record;
 
 /// A dictionary and a value.
 type Pair = (Vec<u8>, Vec<u8>);
@@ -29,11 +29,11 @@ fn written(row: &Row) -> Vec<Pair> {
 }
 
 /// The time for a record, in nanoseconds: of each block the best of all rounds.
-fn measure(pairs: &[Pair], rounds: usize, call: fn(&[u8], &[u8]) -> bool) -> f64 {
+fn measure(pairs: &[Pair], rounds: usize) -> f64 {
     let once = |block: &[Pair]| {
         let start = Instant::now();
         for (dictionary, value) in black_box(block) {
-            assert!(call(dictionary, value));
+            assert!(Record::read(dictionary, value).is_ok());
         }
         start.elapsed().as_nanos() as f64
     };
@@ -42,13 +42,12 @@ fn measure(pairs: &[Pair], rounds: usize, call: fn(&[u8], &[u8]) -> bool) -> f64
 }
 
 pub fn table(rounds: usize) {
-    println!("| Record | bytes | judged | a byte | judged and searched |");
-    println!("|---|---|---|---|---|");
+    println!("| Record | bytes | judged | a byte |");
+    println!("|---|---|---|---|");
     for row in rows() {
         let pairs = written(&row);
         let bytes = pairs.iter().map(|(dictionary, value)| dictionary.len() + value.len()).sum::<usize>() as f64 / pairs.len() as f64;
-        let judged = measure(&pairs, rounds, |d, v| Record::read(d, v).is_ok());
-        let searched = measure(&pairs, rounds, |d, v| find(d, v, b"\xff") == Err(Refusal::NotFound));
-        println!("| {} | {bytes:.0} | {judged:.0} | {:.2} | {searched:.0} |", row.title, judged / bytes);
+        let time = measure(&pairs, rounds);
+        println!("| {} | {bytes:.0} | {time:.0} | {:.2} |", row.title, time / bytes);
     }
 }

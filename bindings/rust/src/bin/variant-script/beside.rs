@@ -4,12 +4,12 @@ use crate::session::{buffer, hex, output, setting};
 use crate::sha256::sha256;
 use std::fmt::Write;
 use variant_writer::{
-    batch_add, batch_start, find_field, find_first_integer, write_canonical, write_packed_decimal, write_path, write_small_values, BatchReader,
-    Date, Record, Refusal, VariantBuilder,
+    batch_add, batch_start, find_field, find_first_integer, write_packed_decimal, write_small_values, BatchReader, Date, Record, Refusal,
+    VariantBuilder,
 };
 
-pub const VERBS: [&str; 13] =
-    ["days", "civil", "packdec", "readdec", "batchstart", "batchadd", "batchread", "read", "field", "firstint", "find", "canon", "small"];
+pub const VERBS: [&str; 11] =
+    ["days", "civil", "packdec", "readdec", "batchstart", "batchadd", "batchread", "read", "field", "firstint", "small"];
 
 /// Adds the answer line: what the call tells, or the refusal.
 pub fn answer(verb: &str, rest: &[&str], out: &mut String) -> Expected<()> {
@@ -43,8 +43,6 @@ fn told(verb: &str, rest: &[&str]) -> Expected<Result<String, Refusal>> {
             batch_start(&mut file).map(|used| used_bytes(&file, used))
         }
         ("batchadd", _) => added(rest)?,
-        ("find", _) => found(rest)?,
-        ("canon", _) => one_form(rest)?,
         ("small", [length, rest @ ..]) => {
             let [size] = words(rest, &["out"], ["2000000"])?;
             small(unsigned(length)?, buffer(unsigned(size)?)?)
@@ -69,24 +67,6 @@ fn of_record(verb: &str, rest: &[&str]) -> Expected<Result<String, Refusal>> {
         _ => find_first_integer(&dictionary, &value)
             .map(|found| found.map_or_else(none, |(id, number)| format!("ok id={id} number={number}"))),
     })
-}
-
-/// The words of the path to a text.
-fn found(rest: &[&str]) -> Expected<Result<String, Refusal>> {
-    let (sizes, rest): (Vec<&str>, Vec<&str>) = rest.iter().partition(|word| word.starts_with("out="));
-    let [value, dictionary, text] = byte_words(&rest, &["value", "dict", "tag"])?;
-    let mut out = output(&sizes)?;
-    Ok(write_path(&dictionary, &value, &text, &mut out).map(|written| format!("words={}", hexadecimal(&out[..written]))))
-}
-
-/// The one pair for a record's live tree.
-fn one_form(rest: &[&str]) -> Expected<Result<String, Refusal>> {
-    let (sizes, rest): (Vec<&str>, Vec<&str>) = rest.iter().partition(|word| word.starts_with("out"));
-    let [value, dictionary, _] = byte_words(&rest, &["value", "dict"])?;
-    let [value_size, dictionary_size] = words(&sizes, &["outvalue", "outdict"], ["4096", "4096"])?;
-    let (mut new_value, mut new_dictionary) = (buffer(unsigned(value_size)?)?, buffer(unsigned(dictionary_size)?)?);
-    Ok(write_canonical(&dictionary, &value, &mut new_dictionary, &mut new_value)
-        .map(|(d, v)| format!("value={} dict={}", hexadecimal(&new_value[..v]), hexadecimal(&new_dictionary[..d]))))
 }
 
 /// The bytes of words KEY=BYTES; a key alone has none, as one that is left out, and of one that comes again the last counts.

@@ -5,7 +5,7 @@ use std::fmt::Write;
 use variant_writer::{listing, Refusal, VariantBuilder};
 
 const VERBS: &str = "a call: new, register, append, open, close, rollback, unique, mark, return, finish, days, civil, packdec, readdec, \
-    batchstart, batchadd, batchread, read, field, firstint, find, canon, small, poke, dump or dumpvalue";
+    batchstart, batchadd, batchread, read, field, firstint, small, poke, dump or dumpvalue";
 const SETTINGS: [&str; 8] = ["unique", "value", "namebytes", "names", "entries", "fill", "floor", "undo"];
 
 pub struct Session {

@@ -17,11 +17,11 @@ room : (c : Else-value_length-v) → let v = c.args.v.now in list_from v ≤ len
 room c =
     list_room c.args.v.now (rw c.first_byte-b.ensures.0 at c.if-b-ne3.false) (whole c)
 
-table-within : (c : After-list_from-from) → c.list_table-table.result ≤ length c.args.v.now
-table-within c = omega (arith, c.list_table-table.ensures.0, room (up-Else-value_length-v _ _ _ c.before.before.before))
+table_within : (c : After-list_from-from) → c.list_table-table.result ≤ length c.args.v.now
+table_within c = omega (arith, c.list_table-table.ensures.0, room (up-Else-value_length-v _ _ _ c.before.before.before))
 
-from-within : (c : After-list_count) → c.list_from-from.result ≤ length c.args.v.now
-from-within c = omega (arith, c.list_from-from.ensures, room (up-Else-value_length-v _ _ _ c.before.before.before.before.before.before))
+from_within : (c : After-list_count) → c.list_from-from.result ≤ length c.args.v.now
+from_within c = omega (arith, c.list_from-from.ensures, room (up-Else-value_length-v _ _ _ c.before.before.before.before.before.before))
 
 pub returns-then-b-ne3 : goal.returns-then-b-ne3
 returns-then-b-ne3 c = list_other c.args.v.now c.first_byte-b.ensures.0 c.if-b-ne3.true
@@ -46,13 +46,13 @@ returns c =
     (list_read v c.list_table-table.ensures.0 c.offset_width.ensures.0 c.list_count.ensures.0 c.list_from-from.ensures c.are_starts.ensures) c.if-are_starts.false
 
 pub slice_bounds-are_starts-start : goal.slice_bounds-are_starts-start
-slice_bounds-are_starts-start c = omega (arith, table-within (goal.at.slice_bounds-are_starts-start c).After-list_from-from)
+slice_bounds-are_starts-start c = omega (arith, table_within (goal.at.slice_bounds-are_starts-start c).After-list_from-from)
 
 pub slice_bounds-are_starts-start-2 : goal.slice_bounds-are_starts-start-2
-slice_bounds-are_starts-start-2 c = omega (arith, from-within (goal.at.slice_bounds-are_starts-start-2 c).After-list_count)
+slice_bounds-are_starts-start-2 c = omega (arith, from_within (goal.at.slice_bounds-are_starts-start-2 c).After-list_count)
 
 pub slice_bounds-are_starts-count : goal.slice_bounds-are_starts-count
-slice_bounds-are_starts-count c = table-within (goal.at.slice_bounds-are_starts-count c).After-list_from-from
+slice_bounds-are_starts-count c = table_within (goal.at.slice_bounds-are_starts-count c).After-list_from-from
 
 pub slice_bounds-are_starts-count-2 : goal.slice_bounds-are_starts-count-2
-slice_bounds-are_starts-count-2 c = from-within (goal.at.slice_bounds-are_starts-count-2 c).After-list_count
+slice_bounds-are_starts-count-2 c = from_within (goal.at.slice_bounds-are_starts-count-2 c).After-list_count

@@ -1,7 +1,9 @@
 -- The ids that are left, behind the last one read, decide as all of them do.
 use native.Mathlib.Omega.{arith}
-use borrow.Author.Tests.{not-true, not-false}
-use mathlib.Core.Path.{sym, ◌∙◌}
+use borrow.Author.Rules.{rules}
+use borrow.Author.Tests.{not-true}
+use mathlib.Core.Path.{◌≡◌, sym, ◌∙◌}
+use mathlib.Core.Bool.{true}
 use Rattle.metadata.specs.Bytes.{dictionary_names}
 use Rattle.lexicon.proofs.NameLaws.{numbered}
 use Rattle.header_reader.proofs.TableLaws.{names_none, names_start, names_fall, names_again, names_end}
@@ -29,7 +31,8 @@ pub loop-left-preserved : goal.loop-left-preserved
 loop-left-preserved c =
     let b = c.name_below in
     let p = c.requires in
-    names_again c.loop-left.invariant c.loop-left-test.true (numbered p.0 c.read_packed-next.ensures) (sym b.ensures ∙ not-false b.result c.if-not-name_below.false-raw)
+    let t : b.result ≡ true = search rules in
+    names_again c.loop-left.invariant c.loop-left-test.true (numbered p.0 c.read_packed-next.ensures) (sym b.ensures ∙ t)
 
 pub returns : goal.returns
 returns c = names_end c.loop-left.invariant c.loop-left-test.false

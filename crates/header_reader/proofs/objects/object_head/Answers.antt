@@ -25,7 +25,7 @@ returns-then-b-gt127 c = object_unused _ c.args.v.now c.first_byte-b.ensures.0 c
 
 pub returns-then-value_length-v : goal.returns-then-value_length-v
 returns-then-value_length-v c =
-    object_cut _ c.args.v.now c.first_byte-b.ensures.0 c.if-b-ne2.false c.if-b-gt127.false c.value_length.ensures c.if-value_length-v.true
+    object_cut _ c.args.v.now c.first_byte-b.ensures.0 c.if-b-ne2.false (omega arith) c.value_length.ensures c.if-value_length-v.true
 
 pub returns-then-not-ids_good : goal.returns-then-not-ids_good
 returns-then-not-ids_good c =

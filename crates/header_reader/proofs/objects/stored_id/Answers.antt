@@ -1,4 +1,5 @@
 -- By its place, where the header counts one there.
+use borrow.Author.Rules.{rules}
 use native.Mathlib.Omega.{arith}
 use Prim.Native.Nat.{◌*◌, ◌≤◌}
 use Rattle.grammar.specs.Tests.{id_width, id_table}
@@ -19,7 +20,7 @@ returns-then-count_of_fields-k c =
 
 pub returns : goal.returns
 returns c =
-    table_at c.count_of_fields.ensures.0 c.if-count_of_fields-k.false c.id_table.ensures.0 c.id_width-w.ensures c.read_packed.ensures
+    table_at c.count_of_fields.ensures.0 c.if-count_of_fields-k.false (search rules) c.id_width-w.ensures c.read_packed.ensures
 
 pub overflow_mul-w : goal.overflow_mul-w
 overflow_mul-w c = omega (arith, small (goal.at.overflow_mul-w c).After-id_table)

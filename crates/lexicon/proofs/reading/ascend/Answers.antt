@@ -1,7 +1,9 @@
 -- The names from the i-th on decide as all of them do.
-use borrow.Author.Tests.{not-true, not-false}
+use borrow.Author.Rules.{rules}
+use borrow.Author.Tests.{not-true}
 use native.Mathlib.Omega.{arith}
-use mathlib.Core.Path.{sym, ◌∙◌}
+use mathlib.Core.Path.{◌≡◌, sym, ◌∙◌}
+use mathlib.Core.Bool.{true}
 use Prim.Native.Nat.{◌<◌}
 use lib.ListN.{length}
 use Rattle.metadata.specs.Bytes.{dictionary_names}
@@ -30,7 +32,8 @@ pub loop-id-preserved : goal.loop-id-preserved
 loop-id-preserved c =
     let b = c.name_below in
     let i = c.loop-id.invariant in
-    (ascends_again i.0 (omega (arith, i.1)) (sym b.ensures ∙ not-false b.result c.if-not-name_below.false-raw), i.1)
+    let t : b.result ≡ true = search rules in
+    (ascends_again i.0 (omega (arith, i.1)) (sym b.ensures ∙ t), i.1)
 
 pub returns : goal.returns
 returns c = let i = c.loop-id.invariant in ascends_end i.0 (omega (arith, i.1))

@@ -1,4 +1,5 @@
 -- A container by its header and then its data; the data one value after another, each kind of value by its own function.
+use borrow.Author.Rules.{rules}
 use native.Mathlib.Omega.{arith}
 use mathlib.Core.Path.{◌≡◌, sym, ◌∙◌}
 use Prim.Native.Nat.{◌+◌, ◌-◌}
@@ -52,7 +53,7 @@ values_ok-returns-then-not-ok t c =
     elim c.match-v-at-rem4.branch [
       | values_ok-in-3 w ↦ w.ok-is ∙ w.list_ok-ok.ensures
       | values_ok-in-2 w ↦ w.ok-is ∙ w.object_ok-ok.ensures
-      | values_ok-in_default w ↦ w.ok-is ∙ part_scalar c.loop-at.invariant c.value_length-n.ensures c.loop-at-test.true c.if-n-eq0.false _ _ w.in_default.in_default-own.rest.0.1 w.in_default.in_default-own.rest.1 w.is_scalar-ok.ensures
+      | values_ok-in_default w ↦ part_scalar c.loop-at.invariant c.value_length-n.ensures c.loop-at-test.true c.if-n-eq0.false _ _ w.in_default.in_default-own.rest.0.1 w.in_default.in_default-own.rest.1 (w.ok-is ∙ search rules)
     ] in
     walks_bad c.loop-at.invariant c.value_length-n.ensures c.loop-at-test.true c.if-n-eq0.false (sym judged ∙ c.if-not-ok.true)
 
@@ -62,7 +63,7 @@ values_ok-loop-at-preserved t c =
     elim c.match-v-at-rem4.branch [
       | values_ok-in-3 w ↦ w.ok-is ∙ w.list_ok-ok.ensures
       | values_ok-in-2 w ↦ w.ok-is ∙ w.object_ok-ok.ensures
-      | values_ok-in_default w ↦ w.ok-is ∙ part_scalar c.loop-at.invariant c.value_length-n.ensures c.loop-at-test.true c.if-n-eq0.false _ _ w.in_default.in_default-own.rest.0.1 w.in_default.in_default-own.rest.1 w.is_scalar-ok.ensures
+      | values_ok-in_default w ↦ part_scalar c.loop-at.invariant c.value_length-n.ensures c.loop-at-test.true c.if-n-eq0.false _ _ w.in_default.in_default-own.rest.0.1 w.in_default.in_default-own.rest.1 (w.ok-is ∙ search rules)
     ] in
     walks_again c.loop-at.invariant c.value_length-n.ensures c.loop-at-test.true c.if-n-eq0.false (sym judged ∙ c.if-not-ok.false)
 

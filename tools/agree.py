@@ -975,15 +975,28 @@ UNFOLDING = ("width width_at le les number twos whole table follow rest utf8 wri
              "restore replay mark_at marks_of falling marks_hold with_marks put_mark entries_returned returned alike_marks marked")
 
 
-GROUP = 5  # steps in a theorem: antt limits what one may compute
+# how many steps a theorem has at most, and the characters at which it gets no more: antt limits what one may compute
+GROUP, LONG = 5, 16000
+
+
+def grouped(steps, at):
+    """The steps by theorem, each group with its first step's place and the steps' terms."""
+    groups, size = [], LONG
+    for n, s in enumerate(steps, at):
+        term = step_term(s)
+        if size >= LONG or len(groups[-1][1]) == GROUP:
+            groups.append((n, []))
+            size = 0
+        groups[-1][1].append((s, term))
+        size += len(term)
+    return groups
 
 
 def module(steps, at):
     text = STEPS_HEAD
-    for g in range(0, len(steps), GROUP):
-        n = at + g
-        terms = "".join(f"    -- {n + i}, {s.origin}: {s.call[0]}, number {s.number}\n    {'∷ ' if i else ''}{step_term(s)}\n"
-                        for i, s in enumerate(steps[g:g + GROUP]))
+    for n, group in grouped(steps, at):
+        terms = "".join(f"    -- {n + i}, {s.origin}: {s.call[0]}, number {s.number}\n    {'∷ ' if i else ''}{term}\n"
+                        for i, (s, term) in enumerate(group))
         text += (f"unfoldable pub taken{n} : List Check\ntaken{n} =\n{terms}    ∷ []\n\n"
                  f"pub agree{n} : faults {n} taken{n} ≡ []\nunfolding {UNFOLDING} taken{n}\nagree{n} = refl\n\n")
     return text
@@ -1090,11 +1103,13 @@ def check(repo, modules):
                 places = sorted({int(n) for d in differ for n in re.findall(r"\d+", d)})
                 if places:
                     print("these differ (see them with --only):", *places, flush=True)
-                groups = {int(n) for n in re.findall(r"error: `agree(\d+)`: expected type", text)}
-                for n in sorted(groups - {m for m in groups for k in places if m <= k < m + GROUP}):
-                    print(f"some of {n} to {n + GROUP - 1} differ (too long to be shown)", flush=True)
+                refused = {int(n) for n in re.findall(r"error: `agree(\d+)`: expected type", text)}
+                for n, group in grouped(steps, at):
+                    if n in refused and not any(n <= k < n + len(group) for k in places):
+                        print(f"some of {n} to {n + len(group) - 1} differ (too long to be shown)", flush=True)
                 others = [l[:600] for l in text.splitlines() if "error" in l and "faults" not in l]
-                print("\n".join(others[:6]), flush=True)
+                for line in others[:6]:
+                    print(line, flush=True)
         return bad
     finally:
         shutil.rmtree(copy_of, ignore_errors=True)
@@ -1107,7 +1122,7 @@ def main():
     p.add_argument("--seed", type=int, default=1)
     p.add_argument("--runs", type=int, default=400)
     p.add_argument("--share", type=int, default=1, help="one-off steps for each step of a run")
-    p.add_argument("--steps", type=int, default=250, help="steps in a module")
+    p.add_argument("--steps", type=int, default=2000, help="steps in a module")
     p.add_argument("--first", type=int, default=None, help="only so many modules")
     p.add_argument("--only", type=int, default=None, help="only the step at this place, printed too")
     p.add_argument("--out")

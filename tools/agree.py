@@ -736,14 +736,14 @@ def call_term(call):
         name = "none" if call[1] is None else f"(some {numbers(call[1])})"
         if verb == "append":
             return f"(append {name} {scalar_term(call[2])})"
-        return f"(openIn {name} {bools(call[2] == 'object')})"
+        return f"(open_in {name} {bools(call[2] == 'object')})"
     if verb == "unique":
         return f"(uniqueness {bools(call[1])})"
     if verb == "finish":
         return f"(finish {numbers(call[1])})"
     if verb == "return":
-        return f"(returnTo {call[1]})"
-    return {"close": "close", "rollback": "rollBack", "mark": "setMark"}[verb]
+        return f"(return_to {call[1]})"
+    return {"close": "close", "rollback": "roll_back", "mark": "set_mark"}[verb]
 
 
 def container_term(c):
@@ -777,20 +777,15 @@ def step_term(step):
 
 
 COMPARE = """-- Steps to be held against `step`, and the places of those that differ.
-use mathlib.Core.Bool.{Bool, true, false, cond, not, _&&_, _||_}
-use mathlib.Core.List.{List, [], _∷_, _++_}
-use Prim.Native.Nat.{ℕ, _+_, _-_}
-use lib.Dec.{eqb, leb}
-use lib.ListN.{length, replicate}
-use Rattle·metadata.specs.Names.{same}
-use Rattle·semantics.specs.declared.Builder.{Builder}
-use Rattle·semantics.specs.declared.Container.{Container}
-use Rattle·semantics.specs.declared.Counts.{Counts}
-use Rattle·semantics.specs.declared.Mark.{Mark}
-use Rattle·semantics.specs.declared.ParentEntry.{ParentEntry}
-use Rattle·semantics.specs.declared.ParentEntry.the-variants.{New, Replaced}
-use Rattle·semantics.specs.Record.{Storage, storageOf, State, Call, tableSize, marksOf}
-use Rattle·semantics.specs.Step.{Outcome, step, lentOutput}
+use Rattle.std.specs.Prelude.{Bool, true, false, cond, not, ◌&&◌, ◌||◌, List, [], ◌∷◌, ◌++◌, ℕ, ◌+◌, ◌-◌, eqb, leb, length, replicate}
+use Rattle.metadata.specs.Names.{same}
+use Rattle.semantics.specs.declared.Container.{Container}
+use Rattle.semantics.specs.declared.Counts.{Counts}
+use Rattle.semantics.specs.declared.Mark.{Mark}
+use Rattle.semantics.specs.declared.ParentEntry.{ParentEntry}
+use Rattle.semantics.specs.declared.ParentEntry.TheVariants.{New, Replaced}
+use Rattle.semantics.specs.Record.{Storage, storage_of, State, Call, table_size, marks_of}
+use Rattle.semantics.specs.Step.{step, lent_output}
 
 -- a step as the model takes it; of the containers after it those that are open
 pub record Check : Type 0 where
@@ -815,10 +810,10 @@ filled ns = ns ++ replicate (64 - length ns) 99
 
 -- and the table of marks
 abbrev pub tabled : List ℕ → List ℕ
-tabled ms = ms ++ replicate (tableSize - length ms) 77
+tabled ms = ms ++ replicate (table_size - length ms) 77
 
 abbrev pub state : ℕ → ℕ → ℕ → ℕ → ℕ → ℕ → Bool → Bool → ℕ → List Container → List ℕ → List ℕ → List ℕ → List ℕ → List ℕ → List ℕ → List ℕ → State
-state value names text entries undo depth unique finished floor containers elements marks valueBytes textBytes ends numbers records =
+state value names text entries undo depth unique finished floor containers elements marks value_bytes text_bytes ends numbers records =
     record {
       builder =
           record {
@@ -837,100 +832,100 @@ state value names text entries undo depth unique finished floor containers eleme
                 };
           };
       marks = marks;
-      storage = storageOf valueBytes textBytes ends numbers records;
+      storage = storage_of value_bytes text_bytes ends numbers records;
     }
 
 abbrev pub leaves : State → Call → State → List ℕ → ℕ → Check
 leaves s c t output written = record { before = s; call = c; number = 0; after = t; output = output; written = written }
 
 abbrev pub refuses : State → Call → ℕ → Check
-refuses s c n = record { before = s; call = c; number = n; after = s; output = lentOutput c; written = 0 }
+refuses s c n = record { before = s; call = c; number = n; after = s; output = lent_output c; written = 0 }
 
 abbrev pub whole : State → State
 whole s =
-    let b = s .builder in
+    let b = s.builder in
     record {
-      builder = record { containers = padded (b .containers); elements = filled (b .elements); counts = b .counts };
-      marks = tabled (s .marks);
-      storage = s .storage;
+      builder = record { containers = padded b.containers; elements = filled b.elements; counts = b.counts };
+      marks = tabled s.marks;
+      storage = s.storage;
     }
 
 unfoldable pub alike : Bool → Bool → Bool
 alike true b = b
 alike false b = not b
 
-unfoldable pub alikeParents : ParentEntry → ParentEntry → Bool
-alikeParents New New = true
-alikeParents New (Replaced i o) = false
-alikeParents (Replaced i o) New = false
-alikeParents (Replaced i o) (Replaced j p) = eqb i j && eqb o p
+unfoldable pub alike_parents : ParentEntry → ParentEntry → Bool
+alike_parents New New = true
+alike_parents New (Replaced i o) = false
+alike_parents (Replaced i o) New = false
+alike_parents (Replaced i o) (Replaced j p) = eqb i j && eqb o p
 
-unfoldable pub alikeContainers : Container → Container → Bool
-alikeContainers k l =
-    eqb (k .value) (l .value)
-    && (eqb (k .names) (l .names)
-    && (eqb (k .text) (l .text)
-    && (eqb (k .entries) (l .entries)
-    && (eqb (k .undo) (l .undo)
-    && (alikeParents (k .parent) (l .parent) && (alike (k .object) (l .object) && (alike (k .unique) (l .unique) && eqb (k .marks) (l .marks))))))))
+unfoldable pub alike_containers : Container → Container → Bool
+alike_containers k l =
+    eqb k.value l.value
+    && (eqb k.names l.names
+    && (eqb k.text l.text
+    && (eqb k.entries l.entries
+    && (eqb k.undo l.undo
+    && (alike_parents k.parent l.parent && (alike k.object l.object && (alike k.unique l.unique && eqb k.marks l.marks)))))))
 
 -- the second begins with containers like the first's
 unfoldable pub begins : List Container → List Container → Bool
 begins [] ls = true
 begins (k ∷ ks) [] = false
-begins (k ∷ ks) (l ∷ ls) = alikeContainers k l && begins ks ls
+begins (k ∷ ks) (l ∷ ls) = alike_containers k l && begins ks ls
 
 -- so the elements, of lists; those of an object are free
 unfoldable pub counts : List Container → List ℕ → List ℕ → Bool
 counts [] ms ns = true
 counts (k ∷ ks) [] ns = false
 counts (k ∷ ks) (m ∷ ms) [] = false
-counts (k ∷ ks) (m ∷ ms) (n ∷ ns) = (k .object || eqb m n) && counts ks ms ns
+counts (k ∷ ks) (m ∷ ms) (n ∷ ns) = (k.object || eqb m n) && counts ks ms ns
 
 -- so the marks that are set; of an object their counts are free
-unfoldable pub alikeMarks : Bool → List Mark → List Mark → Bool
-alikeMarks object [] qs = true
-alikeMarks object (p ∷ ps) [] = false
-alikeMarks object (p ∷ ps) (q ∷ qs) =
-    eqb (p .value) (q .value)
-    && (eqb (p .names) (q .names)
-    && (eqb (p .text) (q .text)
-    && (eqb (p .entries) (q .entries)
-    && (eqb (p .undo) (q .undo) && ((object || eqb (p .count) (q .count)) && (alike (p .unique) (q .unique) && alikeMarks object ps qs))))))
+unfoldable pub alike_marks : Bool → List Mark → List Mark → Bool
+alike_marks object [] qs = true
+alike_marks object (p ∷ ps) [] = false
+alike_marks object (p ∷ ps) (q ∷ qs) =
+    eqb p.value q.value
+    && (eqb p.names q.names
+    && (eqb p.text q.text
+    && (eqb p.entries q.entries
+    && (eqb p.undo q.undo && ((object || eqb p.count q.count) && (alike p.unique q.unique && alike_marks object ps qs))))))
 
 unfoldable pub marked : List Container → ℕ → List ℕ → List ℕ → Bool
 marked [] d ms ns = true
 marked (k ∷ ks) d ms ns =
-    let n = cond (leb (k .marks) 16) (k .marks) 16 in
-    alikeMarks (k .object) (marksOf ms d n) (marksOf ns d n) && marked ks (d + 1) ms ns
+    let n = cond (leb k.marks 16) k.marks 16 in
+    alike_marks k.object (marks_of ms d n) (marks_of ns d n) && marked ks (d + 1) ms ns
 
-unfoldable pub alikeCounts : Counts → Counts → Bool
-alikeCounts c d =
-    eqb (c .value) (d .value)
-    && (eqb (c .entries) (d .entries)
-    && (eqb (c .undo) (d .undo)
-    && (eqb (c .depth) (d .depth)
-    && (eqb (c .dictionary .names) (d .dictionary .names)
-    && (eqb (c .dictionary .text) (d .dictionary .text)
-    && (alike (c .unique) (d .unique) && (alike (c .finished) (d .finished) && eqb (c .floor) (d .floor))))))))
+unfoldable pub alike_counts : Counts → Counts → Bool
+alike_counts c d =
+    eqb c.value d.value
+    && (eqb c.entries d.entries
+    && (eqb c.undo d.undo
+    && (eqb c.depth d.depth
+    && (eqb c.dictionary.names d.dictionary.names
+    && (eqb c.dictionary.text d.dictionary.text
+    && (alike c.unique d.unique && (alike c.finished d.finished && eqb c.floor d.floor)))))))
 
-unfoldable pub alikeStorage : Storage → Storage → Bool
-alikeStorage s t =
-    same (s .value) (t .value)
-    && (same (s .text) (t .text) && (same (s .ends) (t .ends) && (same (s .entries) (t .entries) && same (s .undo) (t .undo))))
+unfoldable pub alike_storage : Storage → Storage → Bool
+alike_storage s t =
+    same s.value t.value
+    && (same s.text t.text && (same s.ends t.ends && (same s.entries t.entries && same s.undo t.undo)))
 
-unfoldable pub alikeStates : State → State → Bool
-alikeStates s t =
-    alikeCounts (s .builder .counts) (t .builder .counts)
-    && (begins (s .builder .containers) (t .builder .containers)
-    && (counts (s .builder .containers) (s .builder .elements) (t .builder .elements)
-    && (marked (s .builder .containers) 0 (s .marks) (t .marks)
-    && (eqb (length (t .builder .containers)) 64 && (eqb (length (t .builder .elements)) 64 && alikeStorage (s .storage) (t .storage))))))
+unfoldable pub alike_states : State → State → Bool
+alike_states s t =
+    alike_counts s.builder.counts t.builder.counts
+    && (begins s.builder.containers t.builder.containers
+    && (counts s.builder.containers s.builder.elements t.builder.elements
+    && (marked s.builder.containers 0 s.marks t.marks
+    && (eqb (length t.builder.containers) 64 && (eqb (length t.builder.elements) 64 && alike_storage s.storage t.storage)))))
 
 unfoldable pub agrees : Check → Bool
 agrees k =
-    let o = step (whole (k .before)) (k .call) in
-    eqb (k .number) (o .number) && (eqb (k .written) (o .written) && (same (k .output) (o .output) && alikeStates (k .after) (o .state)))
+    let o = step (whole k.before) k.call in
+    eqb k.number o.number && (eqb k.written o.written && (same k.output o.output && alike_states k.after o.state))
 
 -- the places, from n on, of those that differ
 unfoldable pub faults : ℕ → List Check → List ℕ
@@ -939,61 +934,69 @@ faults n (k ∷ ks) = cond (agrees k) (faults (n + 1) ks) (n ∷ faults (n + 1) 
 """
 
 STEPS_HEAD = """-- Steps of the model, held against `step` by computation.
-use mathlib.Core.Path.{_≡_, refl}
-use mathlib.Core.Bool.{Bool, true, false, cond}
-use mathlib.Core.List.{List, [], _∷_, _++_}
-use mathlib.Core.Option.{Option, none, some}
-use Prim.Native.Nat.{ℕ}
-use lib.IntN.{pos, negsuc}
-use lib.ListN.{replicate}
-use Rattle·encoding.specs.Width.{width, widthAt}
-use Rattle·encoding.specs.Packed.{le, les, number}
-use Rattle·encoding.specs.Signed.{twos, whole}
-use Rattle·encoding.specs.Utf8.{table, follow, rest, utf8}
-use Rattle·encoding.specs.Rows.{first}
-use Rattle·encoding.specs.Slices.{write, shift}
-use Rattle·value.specs.Scalar.{scalarBytes, scalarLength}
-use Rattle·value.specs.declared.variant.Variant.the-variants as variant
-use Rattle·value.specs.declared.variant.VariantBytes.the-variants as kind
-use Rattle·metadata.specs.Names.{cuts, namesOf, risen, intact, same, place, below, ascending, sorted}
-use Rattle·metadata.specs.Bytes.{joined, endsFrom, laidOut, dictionary}
-use Rattle·container.specs.Layout.{listHeaderAt, listHeader, objectHeaderAt, largest, objectHeader}
-use Rattle·container.specs.Entries.{entriesOf, putEntries, seek, misplaced}
-use Rattle·container.specs.Sort.{insert, sort}
-use Rattle·container.specs.Undo.{restore, replay}
-use Rattle·container.specs.Close.{fronted}
-use Rattle·measure.specs.Measure.{containerLength, valueLength, measured, wholeValues, startsIn}
-use Rattle·semantics.specs.declared.ParentEntry.the-variants.{New, Replaced}
-use Rattle·semantics.specs.Record.{fixed, bytes, uuid, register, append, openIn, close, rollBack, uniqueness, setMark, returnTo, finish}
-use Rattle·semantics.specs.Record.{rising, chained, markAt, marksOf, falling, marksHold}
-use Rattle·semantics.specs.Damage.{overUsed, unchained, badFloor, fallenEnds, misplacedInner, misplacedParent, uncounted, damagedParent}
-use Rattle·semantics.specs.Table.{header, numberOf}
-use Rattle·semantics.specs.Step.{registered, appended, opened, newContainer, entriesClosed, closed, rolledBack, finished, dictionaryOf, after, step}
-use Rattle·semantics.specs.Step.{withMarks, putMark, entriesReturned, returned}
-use Rattle·semantics.specs.Step as steps
-use Rattle·agree·specs.specs.Compare.{Check, box, state, leaves, refuses, alike, alikeParents, alikeContainers, begins, counts, alikeMarks, marked}
-use Rattle·agree·specs.specs.Compare.{alikeCounts, alikeStorage, alikeStates, agrees, faults}
+use Rattle.std.specs.Prelude.{◌≡◌, refl, Bool, true, false, cond, List, [], ◌∷◌, ◌++◌, ℕ, pos, negsuc, replicate}
+use Rattle.std.proofs.Math.Option.{Option, none, some}
+use Rattle.encoding.specs.Width.{width, width_at}
+use Rattle.encoding.specs.Packed.{le, les, number}
+use Rattle.encoding.specs.Signed.{twos, whole}
+use Rattle.encoding.specs.Utf8.{table, follow, rest, utf8}
+use Rattle.encoding.specs.Rows.{first}
+use Rattle.encoding.specs.Slices.{write, shift}
+use Rattle.value.specs.Scalar.{scalar_bytes, scalar_length}
+use Rattle.value.specs.declared.variant.Variant.TheVariants as variant
+use Rattle.value.specs.declared.variant.VariantBytes.TheVariants as kind
+use Rattle.metadata.specs.Names.{cuts, names_of, risen, intact, same, place, below, ascending, sorted}
+use Rattle.metadata.specs.Bytes.{joined, ends_from, laid_out, dictionary}
+use Rattle.container.specs.Layout.{list_header_at, list_header, object_header_at, largest, object_header}
+use Rattle.container.specs.Entries.{entries_of, put_entries, seek, misplaced}
+use Rattle.container.specs.Sort.{insert, sort}
+use Rattle.container.specs.Undo.{restore, replay}
+use Rattle.container.specs.Close.{fronted}
+use Rattle.measure.specs.Measure.{container_length, value_length, measured, whole_values, starts_in}
+use Rattle.semantics.specs.declared.ParentEntry.TheVariants.{New, Replaced}
+use Rattle.semantics.specs.Record.{fixed, bytes, uuid, register, append, open_in, close, roll_back, uniqueness, set_mark, return_to, finish}
+use Rattle.semantics.specs.Record.{rising, chained, mark_at, marks_of, falling, marks_hold}
+use Rattle.semantics.specs.Damage.{over_used, unchained, bad_floor, fallen_ends, misplaced_inner, misplaced_parent, uncounted, damaged_parent}
+use Rattle.semantics.specs.Table.{header, number_of}
+use Rattle.semantics.specs.Step.{registered, appended, opened, new_container, entries_closed, closed, rolled_back, finished, dictionary_of, after, step}
+use Rattle.semantics.specs.Step.{with_marks, put_mark, entries_returned, returned}
+use Rattle.semantics.specs.Step as steps
+use Rattle.agree.specs.Compare.{Check, box, state, leaves, refuses, alike, alike_parents, alike_containers, begins, counts, alike_marks, marked}
+use Rattle.agree.specs.Compare.{alike_counts, alike_storage, alike_states, agrees, faults}
 
 """
 
-UNFOLDING = ("width widthAt le les number twos whole table follow rest utf8 write shift scalarBytes scalarLength cuts namesOf risen intact "
-             "same place below joined endsFrom laidOut dictionary ascending sorted listHeaderAt listHeader objectHeaderAt largest objectHeader "
-             "entriesOf putEntries seek misplaced insert sort fronted overUsed rising chained unchained badFloor fallenEnds misplacedInner "
-             "misplacedParent uncounted damagedParent containerLength valueLength measured wholeValues startsIn header first numberOf "
-             "registered appended opened newContainer entriesClosed closed rolledBack finished dictionaryOf after step steps.withUnique alike "
-             "alikeParents alikeContainers begins counts alikeCounts alikeStorage alikeStates agrees faults "
-             "restore replay markAt marksOf falling marksHold withMarks putMark entriesReturned returned alikeMarks marked")
+UNFOLDING = ("width width_at le les number twos whole table follow rest utf8 write shift scalar_bytes scalar_length cuts names_of risen intact "
+             "same place below joined ends_from laid_out dictionary ascending sorted list_header_at list_header object_header_at largest "
+             "object_header entries_of put_entries seek misplaced insert sort fronted over_used rising chained unchained bad_floor fallen_ends misplaced_inner "
+             "misplaced_parent uncounted damaged_parent container_length value_length measured whole_values starts_in header first number_of "
+             "registered appended opened new_container entries_closed closed rolled_back finished dictionary_of after step steps.with_unique alike "
+             "alike_parents alike_containers begins counts alike_counts alike_storage alike_states agrees faults "
+             "restore replay mark_at marks_of falling marks_hold with_marks put_mark entries_returned returned alike_marks marked")
 
 
-GROUP = 5  # steps in a theorem: antt limits what one may compute
+# how many steps a theorem has at most, and the characters at which it gets no more: antt limits what one may compute
+GROUP, LONG = 5, 16000
+
+
+def grouped(steps, at):
+    """The steps by theorem, each group with its first step's place and the steps' terms."""
+    groups, size = [], LONG
+    for n, s in enumerate(steps, at):
+        term = step_term(s)
+        if size >= LONG or len(groups[-1][1]) == GROUP:
+            groups.append((n, []))
+            size = 0
+        groups[-1][1].append((s, term))
+        size += len(term)
+    return groups
 
 
 def module(steps, at):
     text = STEPS_HEAD
-    for g in range(0, len(steps), GROUP):
-        n = at + g
-        terms = "".join(f"    -- {n + i}, {s.origin}: {s.call[0]}, number {s.number}\n    {'∷ ' if i else ''}{step_term(s)}\n"
-                        for i, s in enumerate(steps[g:g + GROUP]))
+    for n, group in grouped(steps, at):
+        terms = "".join(f"    -- {n + i}, {s.origin}: {s.call[0]}, number {s.number}\n    {'∷ ' if i else ''}{term}\n"
+                        for i, (s, term) in enumerate(group))
         text += (f"unfoldable pub taken{n} : List Check\ntaken{n} =\n{terms}    ∷ []\n\n"
                  f"pub agree{n} : faults {n} taken{n} ≡ []\nunfolding {UNFOLDING} taken{n}\nagree{n} = refl\n\n")
     return text
@@ -1079,8 +1082,7 @@ def check(repo, modules):
     """rt check in a throw-away copy of the repository, module by module; how many are not shown."""
     copy_of = tempfile.mkdtemp(prefix="agree-")
     try:
-        shutil.copytree(os.path.join(repo, "crates"), os.path.join(copy_of, "crates"))
-        shutil.copytree(os.path.join(repo, "target"), os.path.join(copy_of, "target"))
+        shutil.copytree(os.path.join(repo, "crates"), os.path.join(copy_of, "crates"), ignore=shutil.ignore_patterns("out"))
         with open(os.path.join(repo, "crates.txt")) as f:
             crates = f.read()
         with open(os.path.join(copy_of, "crates.txt"), "w") as f:
@@ -1091,9 +1093,9 @@ def check(repo, modules):
             shutil.rmtree(folder, ignore_errors=True)
             write_crate(folder, [(at, steps)])
             began = time.time()
-            done = subprocess.run(["rt", "check", "agree"], cwd=copy_of, capture_output=True, text=True)
+            done = subprocess.run(["rt", "check"], cwd=folder, capture_output=True, text=True)
             text = done.stdout + done.stderr
-            ok = done.returncode == 0 and "rt: agree proved" in text
+            ok = done.returncode == 0 and "\nlogic=proved " in text
             print(f"steps {at} to {at + len(steps) - 1}: {'agree' if ok else 'NOT SHOWN'}, {time.time() - began:.1f} s", flush=True)
             if not ok:
                 bad += 1
@@ -1101,11 +1103,13 @@ def check(repo, modules):
                 places = sorted({int(n) for d in differ for n in re.findall(r"\d+", d)})
                 if places:
                     print("these differ (see them with --only):", *places, flush=True)
-                groups = {int(n) for n in re.findall(r"error: `agree(\d+)`: expected type", text)}
-                for n in sorted(groups - {m for m in groups for k in places if m <= k < m + GROUP}):
-                    print(f"some of {n} to {n + GROUP - 1} differ (too long to be shown)", flush=True)
+                refused = {int(n) for n in re.findall(r"error: `agree(\d+)`: expected type", text)}
+                for n, group in grouped(steps, at):
+                    if n in refused and not any(n <= k < n + len(group) for k in places):
+                        print(f"some of {n} to {n + len(group) - 1} differ (too long to be shown)", flush=True)
                 others = [l[:600] for l in text.splitlines() if "error" in l and "faults" not in l]
-                print("\n".join(others[:6]), flush=True)
+                for line in others[:6]:
+                    print(line, flush=True)
         return bad
     finally:
         shutil.rmtree(copy_of, ignore_errors=True)
@@ -1118,7 +1122,7 @@ def main():
     p.add_argument("--seed", type=int, default=1)
     p.add_argument("--runs", type=int, default=400)
     p.add_argument("--share", type=int, default=1, help="one-off steps for each step of a run")
-    p.add_argument("--steps", type=int, default=250, help="steps in a module")
+    p.add_argument("--steps", type=int, default=2000, help="steps in a module")
     p.add_argument("--first", type=int, default=None, help="only so many modules")
     p.add_argument("--only", type=int, default=None, help="only the step at this place, printed too")
     p.add_argument("--out")
@@ -1163,7 +1167,7 @@ def main():
     if a.out:
         write_crate(a.out, modules)
         print(f"add the line 'agree: semantics measure container metadata value encoding' to crates.txt of a copy of the repository,\n"
-              f"put {a.out} there as crates/agree, and run: rt check agree")
+              f"put {a.out} there as crates/agree, and run rt check in it")
     if a.check:
         sys.exit(1 if check(a.check, modules) else 0)
 

@@ -316,7 +316,7 @@ impl<'a> VariantBuilder<'a> {
         self.words.all_mut(whole)
     }
 
-    /// The table of marks (`markAt` of `crates/semantics/specs/Record.antt`): seven numbers for each of 16 marks of each of 64 containers. Those that
+    /// The table of marks (`mark_at` of `crates/semantics/specs/Record.antt`): seven numbers for each of 16 marks of each of 64 containers. Those that
     /// are not set may be anything.
     pub fn marks(&self) -> &[usize; MARKS] {
         self.marks.as_deref().unwrap_or(&NO_MARKS)

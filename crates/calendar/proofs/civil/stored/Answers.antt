@@ -17,14 +17,14 @@ date c = not-false _ (rw c.in-Date.is at c.requires)
 moment : (c : In-TimestampMicros) → (in_calendar c.in-TimestampMicros.date ≡ true) × (beyond_day c.in-TimestampMicros.time ≡ false)
 moment c = neither _ _ (rw c.in-TimestampMicros.is at c.requires)
 
-moment-2 : (c : In-TimestampNtzMicros) → (in_calendar c.in-TimestampNtzMicros.date ≡ true) × (beyond_day c.in-TimestampNtzMicros.time ≡ false)
-moment-2 c = neither _ _ (rw c.in-TimestampNtzMicros.is at c.requires)
+moment_second : (c : In-TimestampNtzMicros) → (in_calendar c.in-TimestampNtzMicros.date ≡ true) × (beyond_day c.in-TimestampNtzMicros.time ≡ false)
+moment_second c = neither _ _ (rw c.in-TimestampNtzMicros.is at c.requires)
 
 pub micros_of-requires : goal.micros_of-requires
 micros_of-requires c = rw (to_z-of_z w64 c.in-TimestampMicros.time (record { sfits = omega arith })) (moment (goal.at.micros_of-requires c).In-TimestampMicros)
 
 pub micros_of-requires-in-TimestampNtzMicros : goal.micros_of-requires-in-TimestampNtzMicros
-micros_of-requires-in-TimestampNtzMicros c = rw (to_z-of_z w64 c.in-TimestampNtzMicros.time (record { sfits = omega arith })) (moment-2 (goal.at.micros_of-requires-in-TimestampNtzMicros c).In-TimestampNtzMicros)
+micros_of-requires-in-TimestampNtzMicros c = rw (to_z-of_z w64 c.in-TimestampNtzMicros.time (record { sfits = omega arith })) (moment_second (goal.at.micros_of-requires-in-TimestampNtzMicros c).In-TimestampNtzMicros)
 
 pub returns-in-Date : goal.returns-in-Date
 returns-in-Date c =
@@ -49,7 +49,7 @@ returns-in-TimestampNtzMicros c =
       g.is,
       c.micros_of-in-TimestampNtzMicros.ensures,
       to_z-of_z w64 g.time (record { sfits = omega arith }),
-      to_z-of_z w64 (timestamp g.date g.time) (timestamp_fits g.date g.time (moment-2 (goal.at.returns-in-TimestampNtzMicros c).In-TimestampNtzMicros)),
+      to_z-of_z w64 (timestamp g.date g.time) (timestamp_fits g.date g.time (moment_second (goal.at.returns-in-TimestampNtzMicros c).In-TimestampNtzMicros)),
     )
     refl
 

@@ -9,8 +9,8 @@ use Rattle.measure.proofs.length.container_length.Goals.{After-number_at, After-
 small : (c : After-number_at) → let a = c.args in (a.ids + a.w) * c.number_at.result ≤ 8 * 4294967295
 small c = let a = c.args in table_small {x = a.ids + a.w} (omega arith) c.number_at.ensures.small
 
-small-2 : (c : After-number_at-2) → let a = c.args in (a.ids + a.w) * c.number_at-2.result ≤ 8 * 4294967295
-small-2 c = let a = c.args in table_small {x = a.ids + a.w} (omega arith) c.number_at-2.ensures.small
+small_second : (c : After-number_at-2) → let a = c.args in (a.ids + a.w) * c.number_at-2.result ≤ 8 * 4294967295
+small_second c = let a = c.args in table_small {x = a.ids + a.w} (omega arith) c.number_at-2.ensures.small
 
 pub returns-then-n-lt5 : goal.returns-then-n-lt5
 returns-then-n-lt5 c = let a = c.args in rw c.if-large.true (count_cut a.w a.ids 4 a.v.now c.if-n-lt5.true)
@@ -27,7 +27,7 @@ pub returns-then-n-lt2 : goal.returns-then-n-lt2
 returns-then-n-lt2 c = let a = c.args in rw c.if-large.false (count_cut a.w a.ids 1 a.v.now c.if-n-lt2.true)
 
 pub data_end-requires-2 : goal.data_end-requires-2
-data_end-requires-2 c = (omega (arith, small-2 (goal.at.data_end-requires-2 c).After-number_at-2), omega arith, omega arith)
+data_end-requires-2 c = (omega (arith, small_second (goal.at.data_end-requires-2 c).After-number_at-2), omega arith, omega arith)
 
 pub returns : goal.returns
 returns c =
@@ -41,7 +41,7 @@ pub overflow_add-ids-then-large : goal.overflow_add-ids-then-large
 overflow_add-ids-then-large c = omega (arith, small (goal.at.overflow_add-ids-then-large c).After-number_at)
 
 pub overflow_mul-ids-2 : goal.overflow_mul-ids-2
-overflow_mul-ids-2 c = omega (arith, small-2 (goal.at.overflow_mul-ids-2 c).After-number_at-2)
+overflow_mul-ids-2 c = omega (arith, small_second (goal.at.overflow_mul-ids-2 c).After-number_at-2)
 
 pub overflow_add-ids-3 : goal.overflow_add-ids-3
-overflow_add-ids-3 c = omega (arith, small-2 (goal.at.overflow_add-ids-3 c).After-number_at-2)
+overflow_add-ids-3 c = omega (arith, small_second (goal.at.overflow_add-ids-3 c).After-number_at-2)

@@ -3,7 +3,8 @@ use mathlib.Core.Path.{◌≡◌, refl, sym, ◌∙◌, ap}
 use mathlib.Core.Bool.{Bool, true, false, cond, ◌||◌}
 use mathlib.Core.Logic.{◌⊎◌, inl, inr}
 use mathlib.Core.List.{List, [], ◌∷◌}
-use Rattle.std.specs.Prelude.{None}
+use Rattle.std.specs.Prelude.{None, Option}
+use Rattle.std.specs.Option.{unwrap_or}
 use Rattle.std.specs.Bool.{then_some}
 use Prim.Native.Nat.{ℕ, zero, suc, ◌+◌, ◌*◌, ◌/◌, ◌%◌, ◌≤◌, ◌<◌}
 use native.Mathlib.Nat.{mul-le-mul}
@@ -121,3 +122,9 @@ module _ (w v c count : ℕ) (bytes : List ℕ) (e : count ≡ number_at bytes 1
       → let all = container_length w v c bytes in (1 + c + (v + w) * count + w + size ≡ all) × (0 < all)
   unfolding container_length
   header_told {size} f = rw (← e, ← f) (refl, omega arith)
+
+-- ---- for callers to whom none is 0
+
+pub length_or_zero : (n m : ℕ) (o : Option ℕ) → o ≡ some_length m → n ≡ unwrap_or o 0 → n ≡ m
+length_or_zero n zero o e f = f ∙ (rw e refl)
+length_or_zero n (suc m) o e f = f ∙ (rw e refl)

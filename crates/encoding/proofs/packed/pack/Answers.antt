@@ -1,5 +1,5 @@
 -- The bytes that stand, and those of what is left, give the whole number's. The mask is the remainder by 256, the shift the quotient.
-use mathlib.Core.Path.{sym, ◌∙◌}
+use mathlib.Core.Path.{◌∙◌}
 use native.Mathlib.Omega.{arith}
 use lib.Bits.{and_mask}
 use Rattle.encoding.proofs.PackedLaws.{length_le}

@@ -25,7 +25,7 @@ pub fn close_list(start: usize, used: usize, count: usize, floor: usize, value: 
     let size = used - start;
     let header = list_header_size(floor, count, size);
     if fits(used, header, value.len()) {
-        shift_up(value, start, used, header);
+        let _ = shift_up(value, start, used, header);
         write_list_header(value, start, count, size, floor);
         return Closed::Done(used + header);
     }

@@ -73,7 +73,7 @@ fn values<W: Write>(
     floor: usize,
 ) -> io::Result<()> {
     let mut value = [0u8; 64];
-    write_slice(&mut value, 0, data);
+    let _ = write_slice(&mut value, 0, data);
     let size = data.len();
     let closed = close_list(0, size, count, floor, &mut value);
     line(to, label, closed, size, &value)

@@ -157,5 +157,5 @@ fn entry(entries: &mut [usize], at: usize, id: usize, offset: usize) {
 }
 
 fn bytes(into: &mut [u8], at: usize, operand: &[u8]) {
-    write_slice(into, at, operand);
+    let _ = write_slice(into, at, operand);
 }

@@ -55,9 +55,9 @@ returns-then-fits c =
       entries_left = freed_sorted _ _ _ c.sort.ensures;
     }
 
-pub returns : goal.returns
-returns c =
-    record { header = closes_none _ _ _ _ _ c.outside.ensures c.if-outside.false (size (goal.at.returns c).After-object_header_size-header) c.fits.ensures c.if-fits.false; entries_left = refl }
+pub returns-else-fits : goal.returns-else-fits
+returns-else-fits c =
+    record { header = closes_none _ _ _ _ _ c.outside.ensures c.if-outside.false (size (goal.at.returns-else-fits c).After-object_header_size-header) c.fits.ensures c.if-fits.false; entries_left = refl }
 
 pub overflow_sub-size : goal.overflow_sub-size
 overflow_sub-size c = (tested (goal.at.overflow_sub-size c).Else-outside).order

@@ -9,8 +9,7 @@ use lib.ListN.{length, replicate, take}
 use lib.Seq.{take-append_seam}
 use borrow.Author.Tests.{eq-eqb, ne_eqb, eqb-true, eqb-false}
 use Rattle.encoding.specs.Rows.{first}
-use Rattle.encoding.specs.declared.slices.Placed.{Placed}
-use Rattle.encoding.specs.Slices.{Writes, write}
+use Rattle.encoding.specs.Slices.{Placed, Writes, write}
 use Rattle.value.specs.declared.variant.Variant.{Variant}
 use Rattle.value.specs.Decimal.{out_of_range}
 use Rattle.value.specs.Scalar.{scalar_bytes, stored_uuid, stored_variant}

@@ -9,11 +9,10 @@ use lib.ListN.{length}
 use borrow.Author.Tests.{ltb-true, ltb-false, le-leb, ne_eqb}
 use Rattle.encoding.specs.Rows.{first}
 use Rattle.encoding.specs.Slices.{counted, fits}
-use Rattle.container.specs.declared.Closed.{Closed}
-use Rattle.container.specs.declared.Closed.TheVariants.{Done}
+use Rattle.std.specs.Prelude.{Ok}
 use Rattle.container.specs.Layout.{largest}
 use Rattle.container.specs.Entries.{ids_of, room_for}
-use Rattle.container.specs.Close.{ClosesObject, closed_number, freed}
+use Rattle.container.specs.Close.{Closed, ClosesObject, closed_number, freed}
 use Rattle.container.proofs.ObjectLaws.{front_largest}
 use Rattle.list.specs.Close.{ClosesList}
 use Rattle.semantics.specs.declared.View.{View}
@@ -117,7 +116,7 @@ fronts_number {v} {l} k f =
     go false = refl
 
 -- carried out
-pub leaves_closed : {v : View} {l : Storage} {m : ℕ} {r : Closed} {value entries : List ℕ} {used : ℕ} → Closable v l m → Fronts v l r value entries → r ≡ Done used
+pub leaves_closed : {v : View} {l : Storage} {m : ℕ} {r : Closed} {value entries : List ℕ} {used : ℕ} → Closable v l m → Fronts v l r value entries → r ≡ Ok used
     → Leaves v l close (record { counts = with_counts v.counts used v.inner.entries v.inner.undo (v.counts.depth - 1) v.counts.dictionary; elements = v.siblings; number = 0 })
     (storage_of value l.text l.ends entries l.undo)
 unfolding closed

@@ -14,8 +14,7 @@ use Rattle.metadata.specs.declared.MetadataBuilder.{MetadataBuilder}
 use Rattle.metadata.specs.declared.Added.{Added}
 use Rattle.metadata.specs.Names.{Name}
 use Rattle.metadata.specs.Calls.{Adds, has_room}
-use Rattle.container.specs.declared.Noted.{Noted as Put}
-use Rattle.container.specs.Entries.{Notes, entry_at, room_for}
+use Rattle.container.specs.Entries.{Noted as Put, Notes, entry_at, room_for}
 use Rattle.semantics.specs.declared.ParentEntry.TheVariants.{New, Replaced}
 use Rattle.semantics.specs.declared.View.{View}
 use Rattle.semantics.specs.declared.Counts.{Counts}

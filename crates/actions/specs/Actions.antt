@@ -10,11 +10,10 @@ use Rattle.value.specs.Scalar.{stored_variant}
 use Rattle.metadata.specs.declared.MetadataBuilder.{MetadataBuilder}
 use Rattle.metadata.specs.Names.{Name, field_names, text_size}
 use Rattle.metadata.specs.Calls.{added, from_parts, has_room}
-use Rattle.container.specs.declared.Closed.{Closed}
 use Rattle.container.specs.declared.Frame.{Frame}
 use Rattle.container.specs.Entries.{entry_at, room_for, set_entry}
 use Rattle.container.specs.Undo.{undone_in}
-use Rattle.container.specs.Close.{Closes, closed_number, outside}
+use Rattle.container.specs.Close.{Closed, Closes, closed_number, outside}
 use Rattle.list.specs.Close.{damaged as damaged_list}
 use Rattle.semantics.specs.declared.Counts.{Counts}
 use Rattle.semantics.specs.declared.Mark.{Mark}

@@ -112,7 +112,7 @@ fn append_own(
         return r;
     }
     note(e, entries, undo);
-    write_variant(value, v.counts.value, x);
+    let _ = write_variant(value, v.counts.value, x);
     r
 }
 
@@ -147,7 +147,7 @@ pub fn append_bytes_over(
         return r;
     }
     note(e, entries, undo);
-    write_bytes(value, v.counts.value, kind, bytes);
+    let _ = write_bytes(value, v.counts.value, kind, bytes);
     r
 }
 
@@ -179,6 +179,6 @@ pub fn append_uuid_over(
         return r;
     }
     note(e, entries, undo);
-    write_uuid(value, v.counts.value, uuid);
+    let _ = write_uuid(value, v.counts.value, uuid);
     r
 }

@@ -186,7 +186,7 @@ pub fn note(e: Entered, entries: &mut [usize], undo: &mut [usize]) -> ParentEntr
             id: e.id,
             offset: e.offset,
         };
-        put_entry(entries, e.place, n);
+        let _ = put_entry(entries, e.place, n);
         return ParentEntry::New;
     }
     ParentEntry::New
@@ -201,6 +201,6 @@ fn keep(e: Entered, former: usize, undo: &mut [usize])
             id: e.id,
             offset: former,
         };
-        put_entry(undo, e.slot, n);
+        let _ = put_entry(undo, e.slot, n);
     }
 }

@@ -7,7 +7,7 @@ ghost use Rattle.semantics.specs.Record.{close as close_of, storage_of};
 ghost use Rattle.actions.specs.Actions.{Fronts, Leaves};
 
 use crate::Moved;
-use container::{Closed, Frame, close_object};
+use container::{CloseError, Frame, close_object};
 use list::close_list;
 use refusals::close_number;
 use semantics::{Counts, View};
@@ -35,7 +35,7 @@ pub fn close_over(
     }
     let r = put_header(v, d.largest, value, text, ends, entries);
     match r {
-        Closed::Done(used) => {
+        Ok(used) => {
             let m = c.dictionary;
             Moved {
                 counts: Counts {
@@ -52,12 +52,12 @@ pub fn close_over(
                 number: 0,
             }
         }
-        Closed::Damaged => Moved {
+        Err(CloseError::Damaged) => Moved {
             counts: c,
             elements: v.elements,
             number: 1,
         },
-        Closed::NoRoom => Moved {
+        Err(CloseError::NoRoom) => Moved {
             counts: c,
             elements: v.elements,
             number: 14,
@@ -73,7 +73,7 @@ fn put_header(
     text: &[u8],
     ends: &[usize],
     entries: &mut [usize],
-) -> Closed
+) -> Result<usize, CloseError>
     requires { most ≡ largest (ids_of (entries_of entries.old v.inner.entries (v.counts.entries - v.inner.entries))) }
     ensures { (undo : List ℕ)
         → Fronts v (storage_of value.old text.now ends.now entries.old undo) result

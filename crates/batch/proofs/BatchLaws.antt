@@ -10,8 +10,7 @@ use borrow.Author.Tests.{le-ltb, lt-leb, leb-true, leb-false, ltb-false}
 use lib.ListN.{length, take, drop, length-take, length-append}
 use lib.Seq.{take-take, take-append-le, take-append-add, take_at, drop_at}
 use Rattle.encoding.specs.Rows.{order}
-use Rattle.encoding.specs.Slices.{write, placed_number}
-use Rattle.encoding.specs.declared.slices.Placed.{Placed}
+use Rattle.encoding.specs.Slices.{Placed, write, placed_number}
 use Rattle.encoding.proofs.RowsLaws.{first_none}
 use Rattle.batch.specs.declared.Added.{Added}
 use Rattle.batch.specs.Layout.{Record, count_of, big_endian, big_number, record_bytes, records_bytes, batch_bytes}

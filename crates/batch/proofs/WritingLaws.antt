@@ -9,9 +9,9 @@ use borrow.Author.Tests.{lt-ltb, le-ltb, le-leb, lt-leb, eq-eqb, ne_eqb, ltb-tru
 use lib.ListN.{length, take, drop, get_or, set, length-append, length-take, length-drop, drop_of_length-le}
 use lib.Seq.{drop-drop}
 use Rattle.encoding.specs.Rows.{first, order, in_order}
-use Rattle.encoding.specs.Slices.{write, counted, fits, Writes}
-use Rattle.encoding.specs.declared.slices.Placed.{Placed}
-use Rattle.encoding.specs.declared.slices.Placed.TheVariants as placed
+use Rattle.encoding.specs.Slices.{Placed, write, counted, fits, Writes}
+use Rattle.encoding.specs.declared.slices.NoRoom as refused
+use Rattle.std.specs.Prelude.{Ok, Err}
 use Rattle.encoding.proofs.SliceLaws.{left_done, write_one}
 use Rattle.batch.specs.declared.Added.{Added}
 use Rattle.batch.specs.declared.Added.TheVariants.{Done, Damaged, NoBatch, NoRoom}
@@ -29,11 +29,11 @@ add_in_order file used x = refl
 
 -- ---- a file started
 
-pub starts_none : (file : List ℕ) → length file ≡ 0 → Starts file placed.NoRoom file
+pub starts_none : (file : List ℕ) {n : refused.NoRoom} → length file ≡ 0 → Starts file (Err n) file
 unfolding first batch_bytes records_bytes
 starts_none file e = let t = lt-ltb (length file) 1 (omega arith) in record { number = rw t; bytes = rw t }
 
-pub starts_done : (file : List ℕ) → 0 < length file → Starts file placed.Done (set file 0 1)
+pub starts_done : (file : List ℕ) → 0 < length file → Starts file (Ok tt) (set file 0 1)
 unfolding first batch_bytes records_bytes
 starts_done file h = let t = le-ltb (length file) 1 (omega arith) in record { number = rw t; bytes = rw t (write_one file 0 1 h) }
 

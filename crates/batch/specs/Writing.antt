@@ -1,8 +1,7 @@
 -- Document 02, A7: "The writer starts a file, or adds a record behind the used bytes of one."
 use Rattle.std.specs.Prelude.{◌≡◌, Bool, true, cond, not, ◌||◌, List, [], ◌∷◌, ℕ, ◌+◌, ◌^◌, eqb, leb, ltb, length, take}
 use Rattle.encoding.specs.Rows.{Row, row, first}
-use Rattle.encoding.specs.Slices.{placed_number, write}
-use Rattle.encoding.specs.declared.slices.Placed.{Placed}
+use Rattle.encoding.specs.Slices.{Placed, placed_number, write}
 use Rattle.batch.specs.declared.Added.{Added}
 use Rattle.batch.specs.declared.Added.TheVariants.{Done, Damaged, NoBatch, NoRoom}
 use Rattle.batch.specs.Layout.{Record, count_of, record_bytes, batch_bytes}

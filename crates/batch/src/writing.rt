@@ -7,17 +7,17 @@ ghost use Rattle.batch.specs.Writing.{Adds, Starts};
 
 use crate::Added;
 use crate::numbers::put_number;
-use encoding::slices::{Placed, write_slice};
+use encoding::slices::{NoRoom, write_slice};
 
 // An empty batch: the version byte.
-pub fn start(file: &mut [u8]) -> Placed
+pub fn start(file: &mut [u8]) -> Result<(), NoRoom>
     ensures { Starts file.old result file.new }
 {
     if file.len() == 0 {
-        return Placed::NoRoom;
+        return Err(NoRoom);
     }
     file[0] = 1;
-    Placed::Done
+    Ok(())
 }
 
 // The record behind the first `used` bytes of the buffer. Of these only the version is looked at.
@@ -73,5 +73,5 @@ fn put_bytes(file: &mut [u8], at: usize, bytes: &[u8])
     ensures { file.new ≡ write at bytes.now file.old }
 {
     let end = at + bytes.len();
-    write_slice(&mut file[at..end], 0, bytes);
+    let _ = write_slice(&mut file[at..end], 0, bytes);
 }

@@ -3,8 +3,7 @@ use mathlib.Core.Path.{◌≡◌, refl, sym, ◌∙◌, ap}
 use mathlib.Core.List.{List}
 use Prim.Native.Nat.{ℕ}
 use borrow.Author.Tests.{ne_eqb}
-use Rattle.encoding.specs.Slices.{placed_number}
-use Rattle.encoding.specs.declared.slices.Placed.{Placed}
+use Rattle.encoding.specs.Slices.{Placed, placed_number}
 use Rattle.batch.specs.declared.Added.{Added}
 use Rattle.batch.specs.declared.Added.TheVariants.{Done}
 use Rattle.batch.specs.declared.Step.{Step}

@@ -10,8 +10,7 @@ use lib.ListN.{length, set}
 use lib.Seq.{get_or-set_same}
 use borrow.Author.Tests.{eqb-true, eqb-false, eq-eqb, ne_eqb, leb-true, ltb-true, lt-ltb, not-false}
 use Rattle.encoding.specs.Rows.{first}
-use Rattle.encoding.specs.declared.slices.Placed.{Placed}
-use Rattle.encoding.specs.Slices.{Writes}
+use Rattle.encoding.specs.Slices.{Placed, Writes}
 use Rattle.value.specs.declared.variant.Variant.{Variant}
 use Rattle.value.specs.Scalar.{ill_formed, scalar_bytes, stored_bytes, stored_variant}
 use Rattle.metadata.specs.Names.{Name}

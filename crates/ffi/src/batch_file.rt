@@ -3,17 +3,16 @@ ghost use Rattle.batch.specs.Layout.{record_of};
 ghost use Rattle.ffi.specs.BatchFile.{AddsWords, StartsWords, TellsStep, step_words};
 
 use batch::{Added, Step, add, record_at, start};
-use encoding::slices::Placed;
+use encoding::slices::NoRoom;
 
 // The version byte at the start of `file`, whose used bytes are then 1; 14 where there is no byte.
 #[unsafe(no_mangle)]
 pub extern "C" fn variant_batch_start(file: &mut [u8]) -> u8
     ensures { StartsWords result file.old file.new }
 {
-    let p = start(file);
-    match p {
-        Placed::Done => 0,
-        Placed::NoRoom => 14,
+    match start(file) {
+        Ok(()) => 0,
+        Err(NoRoom) => 14,
     }
 }
 

@@ -238,7 +238,7 @@ fn append_own(
         return e.number;
     }
     note(e, entries, undo);
-    write_variant(value, c.value, x);
+    let _ = write_variant(value, c.value, x);
     0
 }
 
@@ -273,7 +273,7 @@ pub extern "C" fn variant_append_bytes(
         return e.number;
     }
     note(e, entries, undo);
-    write_bytes(value, c.value, k, bytes);
+    let _ = write_bytes(value, c.value, k, bytes);
     0
 }
 
@@ -305,7 +305,7 @@ pub extern "C" fn variant_append_uuid(
         return e.number;
     }
     note(e, entries, undo);
-    write_uuid(value, c.value, u);
+    let _ = write_uuid(value, c.value, u);
     0
 }
 

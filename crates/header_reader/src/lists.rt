@@ -19,7 +19,7 @@ pub fn list_head(v: &[u8]) -> usize
     if 31 < b {
         return 0;
     }
-    if value_length(v) != v.len() {
+    if value_length(v).unwrap_or(0) != v.len() {
         return 0;
     }
     let table = list_table(v);
@@ -73,7 +73,7 @@ fn are_starts(table: &[u8], w: usize, count: usize, values: &[u8]) -> bool
         if read_packed(table, p, w) != at {
             return false;
         }
-        let n = value_length(&values[at..]);
+        let n = value_length(&values[at..]).unwrap_or(0);
         if n == 0 {
             return false;
         }
@@ -81,5 +81,5 @@ fn are_starts(table: &[u8], w: usize, count: usize, values: &[u8]) -> bool
         p += w;
         left -= 1;
     }
-    value_length(&values[at..]) == 0
+    value_length(&values[at..]).unwrap_or(0) == 0
 }

@@ -23,7 +23,7 @@ pub fn object_head(d: &[u8], v: &[u8]) -> usize
     if 127 < b {
         return 0;
     }
-    if value_length(v) != v.len() {
+    if value_length(v).unwrap_or(0) != v.len() {
         return 0;
     }
     if !ids_good(d, v) {

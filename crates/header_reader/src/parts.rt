@@ -64,5 +64,5 @@ pub fn value_from(v: &[u8], at: usize) -> &[u8]
     ensures { result.now ≡ value_from at v.now }
 {
     let rest = part(v, at, v.len());
-    &rest[0..value_length(rest)]
+    &rest[0..value_length(rest).unwrap_or(0)]
 }

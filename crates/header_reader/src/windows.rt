@@ -102,7 +102,7 @@ fn mark_starts(cells: &mut [u8], values: &[u8], lo: usize, at: usize) -> usize
     let hi = lo + cells.len();
     let mut at = at;
     while at < hi {
-        let n = value_length(&values[at..]);
+        let n = value_length(&values[at..]).unwrap_or(0);
         if n == 0 {
             return values.len();
         }

@@ -7,9 +7,8 @@ use native.Mathlib.Omega.{arith}
 use lib.Dec.{leb}
 use lib.ListN.{set, length, length-append}
 use borrow.Author.Tests.{leb-true, le-leb, not-false}
-use Rattle.encoding.specs.declared.slices.Placed.{Placed}
 use Rattle.encoding.specs.Packed.{le, les}
-use Rattle.encoding.specs.Slices.{counted, fits, write, shift, Shifts}
+use Rattle.encoding.specs.Slices.{Placed, counted, fits, write, shift, Shifts}
 use Rattle.encoding.specs.Width.{width_at}
 use Rattle.encoding.proofs.PackedLaws.{length_le, length_les}
 use Rattle.encoding.proofs.SliceLaws.{write_one, fits_counted, left_done}

@@ -1,9 +1,8 @@
 -- What closing a list writes and leaves behind, its offsets had by walking its data.
 use Rattle.std.specs.Prelude.{Bool, not, ◌||◌, List, ℕ, ◌-◌, leb, length}
 use Rattle.encoding.specs.Slices.{counted}
-use Rattle.container.specs.declared.Closed.{Closed}
 use Rattle.container.specs.Layout.{list_header}
-use Rattle.container.specs.Close.{Closes}
+use Rattle.container.specs.Close.{Closed, Closes}
 use Rattle.measure.specs.Measure.{data_in, starts_in, whole_values}
 
 -- 1: marks that fall, or a count that exceeds what is lent; document 02, A8, "the data is not as many whole values as the list counts"

@@ -9,27 +9,28 @@ ghost use Rattle.list.specs.Close.{ClosesList};
 ghost use Rattle.list.specs.Close.{damaged as damaged_of};
 
 use crate::starts::{put_number, write_starts};
-use container::{Closed, count_size};
+use container::{CloseError, count_size};
 use encoding::slices::{counted, fits, shift_up};
 use encoding::width::int_size_at;
 use measure::whole_values;
 
 // The header put before the data, which lies from `start` up to `used` and is `count` values. All is decided before a byte is moved:
 // nothing is written where the data is not so, or the header does not fit after the used bytes.
-pub fn close_list(start: usize, used: usize, count: usize, floor: usize, value: &mut [u8]) -> Closed
+pub fn close_list(start: usize, used: usize, count: usize, floor: usize, value: &mut [u8]) -> Result<usize, CloseError>
     ensures { ClosesList start used count floor value.old result value.new }
 {
     if damaged(start, used, count, value) {
-        return Closed::Damaged;
+        return Err(CloseError::Damaged);
     }
     let size = used - start;
     let header = list_header_size(floor, count, size);
     if fits(used, header, value.len()) {
-        shift_up(value, start, used, header);
+        let _ = shift_up(value, start, used, header);
         write_list_header(value, start, count, size, floor);
-        return Closed::Done(used + header);
+        Ok(used + header)
+    } else {
+        Err(CloseError::NoRoom)
     }
-    Closed::NoRoom
 }
 
 // Do marks fall, do counts exceed what is lent, or is the data not `count` whole values?

@@ -26,7 +26,7 @@ pub(crate) fn write_starts(
     let mut left = n;
     while 0 < left {
         put_number(value, at, p - from, width);
-        p += value_length(&value[p..end]);
+        p += value_length(&value[p..end]).unwrap_or(0);
         at += width;
         left -= 1;
     }

@@ -2,46 +2,28 @@
 use mathlib.Core.Path.{◌≡◌, refl, sym, ◌∙◌, ap}
 use mathlib.Core.Bool.{Bool, true, false}
 use mathlib.Core.List.{List, [], ◌∷◌}
-use Prim.Native.Nat.{ℕ, suc, ◌+◌, ◌-◌, ◌*◌, ◌≤◌, ◌<◌, min}
+use Prim.Native.Nat.{ℕ, zero, suc, ◌+◌, ◌-◌, ◌*◌, ◌<◌, min}
 use native.Mathlib.Omega.{arith}
 use lib.Dec.{leb}
 use lib.ListN.{length, take, drop, get_or, length-drop, drop_of_length-le}
-use lib.Seq.{drop-cons, drop-length, take_all, take-length}
+use lib.Seq.{drop-length, take_all, take-length}
+use Rattle.std.proofs.lemmas.List.{take-take}
 use borrow.Author.Tests.{leb-true, leb-false}
 use Rattle.encoding.specs.Packed.{number}
-use Rattle.measure.specs.Measure.{Numbered, number_at}
+use Rattle.measure.specs.Measure.{Numbered}
 
--- the lowest byte, and the number of those above it
-above : (v : List ℕ) (p w : ℕ) → p < length v → number_at v p (suc w) ≡ get_or v p 0 + 256 * number_at v (p + 1) w
+-- the number of four bytes at most; one that is not there counts 0
+pub number_four : (bytes : List ℕ) → number (take 4 bytes) ≡ get_or bytes 0 0 + 256 * (get_or bytes 1 0 + 256 * (get_or bytes 2 0 + 256 * get_or bytes 3 0))
 unfolding number
-above v p w h = let e : suc p ≡ p + 1 = omega arith in rw (drop-cons v p 0 h, e) refl
+number_four [] = refl
+number_four (a ∷ []) = refl
+number_four (a ∷ b ∷ []) = refl
+number_four (a ∷ b ∷ c ∷ []) = refl
+number_four (a ∷ b ∷ c ∷ d ∷ l) = omega arith
 
-module _ (v : List ℕ) (p w r : ℕ) (k : p + w ≤ length v) where
-  pub one_byte : w ≡ 1 → (r ≡ number (get_or v p 0 ∷ 0 ∷ 0 ∷ 0 ∷ [])) × (r < 4294967296) → Numbered v p w r
-  unfolding number
-  one_byte e x = record { value = x.0 ∙ sym (rw (e, above v p 0 (omega arith)) (omega arith)); small = x.1 }
-
-  pub two_bytes : w ≡ 2 → (r ≡ number (get_or v p 0 ∷ get_or v (p + 1) 0 ∷ 0 ∷ 0 ∷ [])) × (r < 4294967296) → Numbered v p w r
-  unfolding number
-  two_bytes e x = record { value = x.0 ∙ sym (rw (e, above v p 1 (omega arith), above v (p + 1) 0 (omega arith)) (omega arith)); small = x.1 }
-
-  pub three_bytes : w ≡ 3 → (r ≡ number (get_or v p 0 ∷ get_or v (p + 1) 0 ∷ get_or v (p + 2) 0 ∷ 0 ∷ [])) × (r < 4294967296) → Numbered v p w r
-  unfolding number
-  three_bytes e x =
-      let f : p + 1 + 1 ≡ p + 2 = omega arith in
-      record { value = x.0 ∙ sym (rw (e, above v p 2 (omega arith), above v (p + 1) 1 (omega arith), f, above v (p + 2) 0 (omega arith)) (omega arith)); small = x.1 }
-
-  pub four_bytes : w ≡ 4 → (r ≡ number (get_or v p 0 ∷ get_or v (p + 1) 0 ∷ get_or v (p + 2) 0 ∷ get_or v (p + 3) 0 ∷ [])) × (r < 4294967296) → Numbered v p w r
-  unfolding number
-  four_bytes e x =
-      let f : p + 1 + 1 ≡ p + 2 = omega arith in
-      let g : p + 2 + 1 ≡ p + 3 = omega arith in
-      record { value = x.0 ∙ sym (rw (e, above v p 3 (omega arith), above v (p + 1) 2 (omega arith), f, above v (p + 2) 1 (omega arith), g, above v (p + 3) 0 (omega arith)) (omega arith)); small = x.1 }
-
--- no byte
-pub no_bytes : (v : List ℕ) (p w : ℕ) → w ≡ 0 → Numbered v p w 0
-unfolding number
-no_bytes v p w e = rw e (record { value = refl; small = omega arith })
+pub four_joined : (r : ℕ) (bytes : List ℕ) → ((i : ℕ) → get_or bytes i 0 < 256)
+    → r ≡ get_or bytes 0 0 + 256 * (get_or bytes 1 0 + 256 * (get_or bytes 2 0 + 256 * get_or bytes 3 0)) → (r ≡ number (take 4 bytes)) × (r < 4294967296)
+four_joined r bytes s e = (e ∙ sym (number_four bytes), omega (arith, s 0, s 1, s 2, s 3))
 
 take_there : (w : ℕ) (l : List ℕ) → take (min w (length l)) l ≡ take w l
 take_there w l = go (leb w (length l)) refl
@@ -63,10 +45,17 @@ drop_there at v = go (leb at (length v)) refl
         let e : min at (length v) ≡ length v = omega arith in
         rw (e, drop-length v) (sym (drop_of_length-le v {i = at} (omega arith)))
 
--- as many bytes as are there, from a place within what is there
-pub number_there : {v : List ℕ} {at w p k r : ℕ} → p ≡ min at (length v) → k ≡ min w (length v - p) → Numbered v p k r → Numbered v at w r
-number_there {v} {at} {w} {p} {k} {r} e f n =
-    let l : length (drop p v) ≡ length v - p = length-drop p v in
-    let t : take k (drop p v) ≡ take w (drop p v) = rw (f, ← l) (take_there w (drop p v)) in
-    let d : drop p v ≡ drop at v = rw e (drop_there at v) in
-    record { value = n.value ∙ ap number (t ∙ ap (take w) d); small = n.small }
+take_fewer : (n : ℕ) (l : List ℕ) → take 4 (take n l) ≡ take (min n 4) l
+take_fewer zero l = refl
+take_fewer (suc zero) l = grind arith
+take_fewer (suc (suc zero)) l = grind arith
+take_fewer (suc (suc (suc zero))) l = grind arith
+take_fewer (suc (suc (suc (suc n)))) l = let e : min (suc (suc (suc (suc n)))) 4 ≡ 4 = omega arith in rw e (take-take 4 (suc (suc (suc (suc n)))) l (omega arith))
+
+-- as many bytes as are there, from a place within what is there; of them four at most
+pub number_there : (v : List ℕ) (at size p k r : ℕ) → p ≡ min at (length v) → k ≡ min size (length (take (length v - p) (drop p v)))
+    → (r ≡ number (take 4 (take k (take (length v - p) (drop p v))))) × (r < 4294967296) → Numbered v at (min size 4) r
+number_there v at size p k r e f n =
+    let rest : take (length v - p) (drop p v) ≡ drop at v = take_all (length v - p) (drop p v) (omega (arith, length-drop p v)) ∙ rw e (drop_there at v) in
+    let few : take k (drop at v) ≡ take size (drop at v) = rw (f, rest) (take_there size (drop at v)) in
+    record { value = n.0 ∙ (rw (rest, few) (ap number (take_fewer size (drop at v)))); small = n.1 }

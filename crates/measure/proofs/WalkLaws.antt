@@ -1,72 +1,45 @@
 -- The invariant of the walk over values: what those still to come say of the bytes is what all of them say; and how many there are.
-use mathlib.Core.Path.{◌≡◌, refl, sym, ◌∙◌, ap}
-use mathlib.Core.Bool.{Bool, true, false, ◌&&◌, ◌||◌, false≢true}
+use mathlib.Core.Path.{◌≡◌, refl, ap}
+use mathlib.Core.Bool.{Bool, true, false, ◌&&◌, false≢true}
 use mathlib.Core.List.{List}
+use Rattle.std.specs.Prelude.{None, Some}
 use Prim.Native.Nat.{ℕ, zero, suc, ◌+◌, ◌-◌, ◌≤◌, ◌<◌}
 use native.Mathlib.Omega.{arith}
 use lib.Dec.{eqb, ltb}
-use lib.ListN.{length, take, drop, get_or, length-drop}
-use lib.Seq.{take_all, drop-cons, drop-drop}
-use borrow.Author.Tests.{eq-eqb, ne_eqb, lt-ltb, ltb-true, eqb-true, eqb-false}
-use Rattle.measure.specs.Measure.{fixed_length, measured, starts_in, whole_values, within}
-use Rattle.measure.proofs.MeasureLaws.{unfit, fit, measured_within, measured_none, fixed_measured}
+use lib.ListN.{length, take, drop, length-drop}
+use lib.Seq.{take_all}
+use borrow.Author.Tests.{lt-ltb, ltb-true}
+use Rattle.measure.specs.Measure.{measured, some_length, starts_in, whole_values}
+use Rattle.measure.proofs.MeasureLaws.{measured_within}
 
-whole_next : (n : ℕ) (bytes : List ℕ) → 0 < n → whole_values n bytes ≡ (ltb 0 (measured bytes) && whole_values (n - 1) (drop (measured bytes) bytes))
+-- the first of these bytes' values, as the code hands it out
+some_is : (r m : ℕ) → Some r ≡ some_length m → (r ≡ m) × (0 < m)
+some_is r zero e = absurd (cc)
+some_is r (suc m) e = (cc, omega arith)
+
+pub whole_fits : (r : ℕ) (bytes : List ℕ) → Some r ≡ some_length (measured bytes) → r ≤ length bytes
+whole_fits r bytes e = let f = (some_is r (measured bytes) e).0 in omega (arith, measured_within bytes)
+
+-- of n values one is there, and the others are behind it; or it is not there; or there is none left to be met
+pub whole_again : (n m r : ℕ) (bytes : List ℕ) → n ≡ suc m → Some r ≡ some_length (measured bytes) → whole_values m (take (length bytes - r) (drop r bytes)) ≡ whole_values n bytes
 unfolding whole_values
-whole_next zero bytes h = absurd (omega arith)
-whole_next (suc n) bytes h = let e : suc n - 1 ≡ n = omega arith in rw e refl
+whole_again n m r bytes h e =
+    let f = some_is r (measured bytes) e in
+    let t = take_all (length bytes - r) (drop r bytes) (omega (arith, length-drop r bytes)) in
+    rw (h, t, f.0, lt-ltb 0 (measured bytes) f.1) refl
 
--- `left` values are still to be met, from `at` on
-pub record Walks (t : Bool) (v : List ℕ) (at left : ℕ) : Type 0 where
-  pub rest : whole_values left (drop at v) ≡ t
-  pub low : at ≤ length v
-
--- the rest of the bytes, as the code cuts it, and its first byte
-rest_is : (v : List ℕ) (at : ℕ) → take (length v - at) (drop at v) ≡ drop at v
-rest_is v at = take_all (length v - at) (drop at v) (omega (arith, length-drop at v))
-
-first_is : (v : List ℕ) (at : ℕ) → at < length v → get_or (drop at v) 0 0 ≡ get_or v at 0
-first_is v at h = rw (drop-cons v at 0 h) refl
-
-module _ {t : Bool} {v : List ℕ} {at left : ℕ} (w : Walks t v at left) where
-  -- the first byte tells the next value alone
-  pub next_fixed : {n : ℕ} → at < length v → n ≡ fixed_length (get_or v at 0) → (eqb n 0 || ltb (length v - at) n) ≡ false → n ≡ measured (drop at v)
-  next_fixed {n} h e f =
-      let p = fit n (length v - at) f in
-      let l = length-drop at v in
-      fixed_measured n (drop at v) (omega arith) (rw (first_is v at h) e) p.0 (omega arith)
-
-  -- or it does not
-  pub next_untold : {n : ℕ} → at < length v → n ≡ fixed_length (get_or v at 0) → (eqb n 0 || ltb (length v - at) n) ≡ true
-      → let rest = take (length v - at) (drop at v) in (0 < length rest) × (within (length rest) (fixed_length (get_or rest 0 0)) ≡ 0)
-  next_untold {n} h e f = rw (rest_is v at, first_is v at h, ← e, length-drop at v) (omega arith, unfit n (length v - at) f)
-
-  pub next_stored : {n : ℕ} → n ≡ measured (take (length v - at) (drop at v)) → n ≡ measured (drop at v)
-  next_stored e = e ∙ ap measured (rest_is v at)
-
-  -- it ends within the bytes
-  pub walks_low : {n : ℕ} → n ≡ measured (drop at v) → at + n ≤ length v
-  walks_low e = let l = w.low in omega (arith, measured_within (drop at v), length-drop at v)
-
-  module _ (h : 0 < left) where
-    pub walks_again : {n : ℕ} → n ≡ measured (drop at v) → 0 < n → Walks t v (at + n) (left - 1)
-    walks_again {n} e k = record { rest = rw (← drop-drop n at v) (rw (whole_next left (drop at v) h, ← e, lt-ltb 0 n k) at w.rest); low = walks_low e }
-
-    -- there is none
-    pub walks_none : 0 ≡ measured (drop at v) → false ≡ t
-    walks_none z = rw (whole_next left (drop at v) h, ← z) at w.rest
-
-    pub walks_out : length v - at ≡ 0 → false ≡ t
-    walks_out e = walks_none (measured_none (drop at v) (omega (arith, length-drop at v)))
-
-pub walks_end : {t : Bool} {v : List ℕ} {at left : ℕ} → Walks t v at left → left ≤ 0 → eqb at (length v) ≡ t
+pub whole_none : (n : ℕ) (bytes : List ℕ) → 0 < n → None ≡ some_length (measured bytes) → false ≡ whole_values n bytes
 unfolding whole_values
-walks_end {left = suc left} w h = absurd (omega arith)
-walks_end {v = v} {at = at} {left = zero} w h = go (eqb at (length v)) refl ∙ w.rest
+whole_none zero bytes h e = absurd (omega arith)
+whole_none (suc n) bytes h e = go (measured bytes) e
   where
-    go : (s : Bool) → eqb at (length v) ≡ s → eqb at (length v) ≡ eqb (length (drop at v)) 0
-    go true p = p ∙ sym (eq-eqb (length (drop at v)) 0 (omega (arith, length-drop at v, eqb-true at (length v) p)))
-    go false p = p ∙ sym (ne_eqb (length (drop at v)) 0 (λ z. eqb-false at (length v) p (let l = w.low in omega (arith, length-drop at v))))
+    go : (m : ℕ) → None ≡ some_length m → false ≡ (ltb 0 m && whole_values n (drop m bytes))
+    go zero e = refl
+    go (suc m) e = absurd (cc)
+
+pub whole_end : (n : ℕ) (bytes : List ℕ) → n ≡ 0 → eqb (length bytes) 0 ≡ whole_values n bytes
+unfolding whole_values
+whole_end n bytes h = rw h refl
 
 both : {a b : Bool} → (a && b) ≡ true → (a ≡ true) × (b ≡ true)
 both {a = true} e = (refl, e)

@@ -1,8 +1,8 @@
 -- document 02, A8, "A value is measured by its first byte, unused bits passed over, and stored lengths; a type code above 20 is no
 -- value."
-use Rattle.std.specs.Prelude.{Bool, cond, ◌&&◌, ◌||◌, List, [], ◌∷◌, ◌≡◌, ℕ, zero, suc, ◌+◌, ◌*◌, ◌/◌, ◌%◌, ◌<◌, eqb, leb, ltb, drop, get_or, length, take}
+use Rattle.std.specs.Prelude.{Bool, Option, Some, None, cond, ◌&&◌, ◌||◌, List, [], ◌∷◌, ◌≡◌, ℕ, zero, suc, ◌+◌, ◌*◌, ◌/◌, ◌%◌, ◌<◌, ◌≤◌, eqb, leb, ltb, drop, get_or, length, take}
 use Rattle.encoding.specs.Packed.{number}
-use Rattle.value.specs.Scalar.{payload_sizes, scalar_length}
+use Rattle.value.specs.Scalar.{scalar_length}
 use Rattle.container.specs.Layout.{count_size}
 
 -- the number in w bytes at place p
@@ -56,24 +56,22 @@ starts_in (suc n) at bytes = at ∷ starts_in n (at + measured bytes) (drop (mea
 abbrev pub data_in : ℕ → ℕ → List ℕ → List ℕ
 data_in start used value = drop start (take used value)
 
--- For the code: the lengths that type codes from c on tell alone, of payload sizes; 0 of Binary and String (15 and 16), whose length is
--- stored
-abbrev pub fixed_from : ℕ → List ℕ → List ℕ
-fixed_from c [] = []
-fixed_from c (n ∷ ns) = cond (eqb c 15 || eqb c 16) 0 (1 + n) ∷ fixed_from (suc c) ns
+-- a length as the code hands it out: none for 0
+abbrev pub some_length : ℕ → Option ℕ
+some_length zero = None
+some_length (suc n) = Some (suc n)
 
-abbrev pub fixed_sizes : List ℕ
-fixed_sizes = fixed_from 0 payload_sizes
-
--- the length that a first byte tells alone: of a short text, and of a type of fixed size; else 0
-abbrev pub fixed_length : ℕ → ℕ
-fixed_length b = cond (eqb (b % 4) 0) (get_or fixed_sizes (b / 4) 0) (cond (eqb (b % 4) 1) (1 + b / 4) 0)
-
--- Binary and String, by their first bytes
-abbrev pub is_long : ℕ → Bool
-is_long b = eqb b 60 || eqb b 64
+-- For the code: r is this length, or none where it is 0 or more than there is
+abbrev pub Told : List ℕ → ℕ → Option ℕ → Type 0
+Told bytes n None = within (length bytes) n ≡ 0
+Told bytes n (Some r) = (r ≡ n) × (0 < n)
 
 -- r is the number in w bytes at place p, of a few bytes
 pub record Numbered (bytes : List ℕ) (p w r : ℕ) : Type 0 where
   pub value : r ≡ number_at bytes p w
   pub small : r < 4294967296
+
+-- r is that number, or none where so many bytes are not there
+abbrev pub Read : List ℕ → ℕ → ℕ → Option ℕ → Type 0
+Read bytes p w None = length bytes < p + w
+Read bytes p w (Some r) = (p + w ≤ length bytes) × Numbered bytes p w r

@@ -1,195 +1,105 @@
 // A value's length by its first bytes.
-ghost use Rattle.std.specs.Prelude.{◌≡◌, ◌+◌, ◌*◌, ◌≤◌, ◌<◌, ◌%◌, min, false, ◌∷◌, [], length, get_or};
+ghost use Rattle.std.specs.Prelude.{◌≡◌, ◌+◌, ◌*◌, ◌≤◌, ◌<◌, ◌^◌, min, ◌∷◌, [], length, get_or, take};
 ghost use Rattle.encoding.specs.Packed.{number};
 ghost use Rattle.container.specs.Layout.{count_size};
-ghost use Rattle.measure.specs.Measure.{Numbered, container_length, fixed_length, fixed_sizes, is_long, measured, number_at};
-ghost use Rattle.measure.specs.Measure.{within as within_of};
+ghost use Rattle.measure.specs.Measure.{Numbered, Read, Told, container_length, known_length, measured, number_at, some_length};
+ghost use Rattle.measure.specs.Measure.{list_length as list_length_of, object_length as object_length_of};
 
-use encoding::slices::min;
-
-// The length of the whole value that these bytes begin with, or 0.
-pub fn value_length(v: &[u8]) -> usize
-    ensures { result ≡ measured v.now }
+// The length of the whole value that these bytes begin with.
+#[inline]
+pub fn value_length(v: &[u8]) -> Option<usize>
+    ensures { result ≡ some_length (measured v.now) }
 {
-    if v.len() == 0 {
-        return 0;
-    }
-    let n = fixed_length(v[0]);
-    if (n == 0) | (v.len() < n) {
-        if is_long(v[0]) {
-            return long_length(v);
+    let [first, ..] = v else {
+        return None;
+    };
+    let b = usize::from(*first);
+    let n = match b & 3 {
+        0 => typed_length(v, b >> 2)?,
+        1 => 1 + (b >> 2),
+        2 => object_length(v, b)?,
+        _ => list_length(v, b)?,
+    };
+    (n <= v.len()).then_some(n)
+}
+
+// A payload's size by type code; Binary's and String's (15 and 16) is that of the length they store.
+static PAYLOAD_SIZES: [u8; 21] = [
+    0, 0, 0, 1, 2, 4, 8, 8, 5, 9, 17, 4, 8, 8, 4, 4, 4, 8, 8, 8, 16,
+];
+
+// By type code; a code above 20 is no value.
+fn typed_length(v: &[u8], code: usize) -> Option<usize>
+    requires { (0 < length v.now) × (get_or v.now 0 0 ≡ 4 * code) }
+    ensures { Told v.now (known_length (4 * code) v.now) result }
+{
+    if code < PAYLOAD_SIZES.len() {
+        let n = 1 + usize::from(PAYLOAD_SIZES[code]);
+        if code == 15 || code == 16 {
+            Some(n + number_at(v, 1, 4)?)
+        } else {
+            Some(n)
         }
-        return header_length(v);
-    }
-    n
-}
-
-// The length that a first byte tells alone: of a type of fixed size, and of a short text. Else 0.
-pub(crate) fn fixed_length(b: u8) -> usize
-    ensures { result ≡ fixed_length b }
-{
-    let first = wide(b);
-    let code = first >> 2;
-    match low_two(first) {
-        0 => size_of_code(code),
-        1 => 1 + code,
-        _ => 0,
+    } else {
+        None
     }
 }
 
-// By type code; 0 of Binary and String (15 and 16), whose length is stored, and of a code above 20.
-fn size_of_code(code: usize) -> usize
-    ensures { result ≡ get_or fixed_sizes code 0 }
+#[inline(never)]
+fn list_length(v: &[u8], b: usize) -> Option<usize>
+    ensures { Told v.now (list_length_of b v.now) result }
 {
-    match code {
-        0 => 1,
-        1 => 1,
-        2 => 1,
-        3 => 2,
-        4 => 3,
-        5 => 5,
-        6 => 9,
-        7 => 9,
-        8 => 6,
-        9 => 10,
-        10 => 18,
-        11 => 5,
-        12 => 9,
-        13 => 9,
-        14 => 5,
-        15 => 0,
-        16 => 0,
-        17 => 9,
-        18 => 9,
-        19 => 9,
-        20 => 17,
-        _ => 0,
-    }
+    container_length(v, (b >> 2 & 3) + 1, 0, b >> 4 & 1 == 1)
 }
 
-// Binary or String, by the first byte: their length is stored behind it.
-pub(crate) fn is_long(b: u8) -> bool
-    ensures { result ≡ is_long b }
+#[inline(never)]
+fn object_length(v: &[u8], b: usize) -> Option<usize>
+    ensures { Told v.now (object_length_of b v.now) result }
 {
-    (b == 60) | (b == 64)
+    container_length(v, (b >> 2 & 3) + 1, (b >> 4 & 3) + 1, b >> 6 & 1 == 1)
 }
 
-// Of these: a length of four bytes, and as many.
-pub(crate) fn long_length(v: &[u8]) -> usize
-    ensures { result ≡ within_of (length v.now) (5 + number_at v.now 1 4) }
-{
-    if v.len() < 5 {
-        return 0;
-    }
-    within(v.len(), 5 + number_at(v, 1, 4))
-}
-
-// The same as `value_length`, where the first byte is neither of these and tells no whole value alone: by a list's or an object's header.
-pub(crate) fn header_length(v: &[u8]) -> usize
-    requires { (0 < length v.now) × (within_of (length v.now) (fixed_length (get_or v.now 0 0)) ≡ 0) × (is_long (get_or v.now 0 0) ≡ false) }
-    ensures { result ≡ measured v.now }
-{
-    let b = wide(v[0]);
-    let w = low_two(b >> 2) + 1;
-    match low_two(b) {
-        3 => container_length(v, w, 0, low_one(b >> 4) == 1),
-        2 => container_length(v, w, low_two(b >> 4) + 1, low_one(b >> 6) == 1),
-        _ => 0,
-    }
-}
-
-// A list's or an object's, with w bytes an offset, `ids` an id, and a count of four bytes or one.
-fn container_length(v: &[u8], w: usize, ids: usize, large: bool) -> usize
+// With w bytes an offset, `ids` an id, and a count of four bytes or one. However the count was altered, the sum is below 2 ^ 37.
+fn container_length(v: &[u8], w: usize, ids: usize, large: bool) -> Option<usize>
     requires { (1 ≤ w) × (w ≤ 4) × (ids ≤ 4) }
-    ensures { result ≡ within_of (length v.now) (container_length w ids (count_size large) v.now) }
+    ensures { Told v.now (container_length w ids (count_size large) v.now) result }
 {
-    let n = v.len();
-    if large {
-        if n < 5 {
-            return 0;
-        }
-        return data_end(v, 5 + (ids + w) * number_at(v, 1, 4), w);
-    }
-    if n < 2 {
-        return 0;
-    }
-    data_end(v, 2 + (ids + w) * number_at(v, 1, 1), w)
+    let c = count_size(large);
+    let last = 1 + c + (ids + w) * number_at(v, 1, c)?;
+    Some(last + w + number_at(v, last, w)?)
 }
 
-// Where the data ends whose size stands at `last`, in w bytes. However a count was altered, the sum is below 2 ^ 37.
-fn data_end(v: &[u8], last: usize, w: usize) -> usize
-    requires { (last ≤ 5 + 8 * 4294967295) × (1 ≤ w) × (w ≤ 4) }
-    ensures { result ≡ within_of (length v.now) (last + w + number_at v.now last w) }
+fn count_size(large: bool) -> usize
+    ensures { result ≡ count_size large }
 {
-    let n = v.len();
-    if n < last + w {
-        return 0;
-    }
-    let size = number_at(v, last, w);
-    within(n, last + w + size)
+    if large { 4 } else { 1 }
 }
 
 // The number in `size` bytes at place `at`, lowest first: in four where more are asked for, in fewer where fewer are there.
 pub fn read_packed(v: &[u8], at: usize, size: usize) -> usize
     ensures { Numbered v.now at (min size 4) result }
 {
-    let p = min(at, v.len());
-    let w = min(min(size, 4), v.len() - p);
-    if w == 0 {
-        return 0;
+    let rest = &v[at.min(v.len())..];
+    number_of(&rest[..size.min(rest.len())])
+}
+
+// The number in w bytes at place p, where they are there.
+fn number_at(v: &[u8], p: usize, w: usize) -> Option<usize>
+    requires { w ≤ 4 }
+    ensures { Read v.now p w result }
+{
+    Some(number_of(v.get(p..)?.get(..w)?))
+}
+
+// The number that up to four bytes stand for, lowest first.
+fn number_of(bytes: &[u8]) -> usize
+    ensures { (result ≡ number (take 4 bytes.now)) × (result < 2 ^ 32) }
+{
+    match bytes {
+        [] => 0,
+        [a] => usize::from(*a),
+        [a, b] => usize::from(u16::from_le_bytes([*a, *b])),
+        [a, b, c] => u32::from_le_bytes([*a, *b, *c, 0]) as usize,
+        [a, b, c, d, ..] => u32::from_le_bytes([*a, *b, *c, *d]) as usize,
     }
-    number_at(v, p, w)
-}
-
-// The number in w bytes at place p, lowest first.
-fn number_at(v: &[u8], p: usize, w: usize) -> usize
-    requires { (p + w ≤ length v.now) × (1 ≤ w) × (w ≤ 4) }
-    ensures { Numbered v.now p w result }
-{
-    if w < 2 {
-        return joined(v[p], 0, 0, 0);
-    }
-    if w < 3 {
-        return joined(v[p], v[p + 1], 0, 0);
-    }
-    if w < 4 {
-        return joined(v[p], v[p + 1], v[p + 2], 0);
-    }
-    joined(v[p], v[p + 1], v[p + 2], v[p + 3])
-}
-
-// The number that four bytes stand for, lowest first.
-fn joined(a: u8, b: u8, c: u8, d: u8) -> usize
-    ensures { (result ≡ number (a ∷ b ∷ c ∷ d ∷ [])) × (result < 4294967296) }
-{
-    wide(a) + 256 * (wide(b) + 256 * (wide(c) + 256 * wide(d)))
-}
-
-// x, where n bytes hold as many, else 0.
-fn within(n: usize, x: usize) -> usize
-    ensures { result ≡ within_of n x }
-{
-    if x <= n {
-        return x;
-    }
-    0
-}
-
-// The low bit, and the low two: the mask is the remainder.
-fn low_one(b: usize) -> usize
-    ensures { result ≡ b % 2 }
-{
-    b & 1
-}
-
-fn low_two(b: usize) -> usize
-    ensures { result ≡ b % 4 }
-{
-    b & 3
-}
-
-fn wide(b: u8) -> usize
-    ensures { (result ≡ b) × (result < 256) }
-{
-    b as usize
 }

@@ -5,8 +5,7 @@ use mathlib.Core.List.{List}
 use Prim.Native.Nat.{ℕ, ◌+◌, ◌≤◌}
 use native.Mathlib.Omega.{arith}
 use lib.ListN.{length}
-use Rattle.encoding.specs.declared.slices.Placed.{Placed}
-use Rattle.encoding.specs.Slices.{counted, fits, write, Writes}
+use Rattle.encoding.specs.Slices.{Placed, counted, fits, write, Writes}
 use Rattle.encoding.proofs.SliceLaws.{fits_counted}
 use Rattle.live.specs.Words.{Path, record_word, steps_words, words}
 use Rattle.path_words.specs.declared.PathWords.TheVariants.{Written, NoRoom}

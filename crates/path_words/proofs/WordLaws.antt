@@ -5,8 +5,7 @@ use Prim.Native.Nat.{ℕ, ◌+◌, ◌≤◌}
 use native.Mathlib.Omega.{arith}
 use lib.ListN.{length, length-append}
 use borrow.Author.Tests.{le-leb}
-use Rattle.encoding.specs.declared.slices.Placed.{Placed}
-use Rattle.encoding.specs.Slices.{counted, write, Writes}
+use Rattle.encoding.specs.Slices.{Placed, counted, write, Writes}
 use Rattle.encoding.proofs.SliceLaws.{length_write, write_write, left_done}
 use Rattle.metadata.specs.Names.{Name}
 use Rattle.live.specs.Words.{field, element, Path, decimal, field_word, bytes_word, element_word, steps_words}

@@ -21,7 +21,7 @@ pub fn write_path(d: &[u8], v: &[u8], p: usize, out: &mut [u8]) -> PathWords
 {
     let size = 6 + steps_size(d, v, p, 64);
     if fits(0, size, out.len()) {
-        write_slice(out, 0, b"record");
+        let _ = write_slice(out, 0, b"record");
         write_steps(d, v, p, 64, out, 6);
         return PathWords::Written(size);
     }
@@ -58,7 +58,7 @@ fn write_element(out: &mut [u8], at: usize, k: usize) -> usize
     ensures { (result ≡ at + length (element_word ++ decimal k []))
         × (out.new ≡ write at (element_word ++ decimal k []) out.old) }
 {
-    write_slice(out, at, b", element ");
+    let _ = write_slice(out, at, b", element ");
     write_decimal(out, at + 10, k)
 }
 
@@ -69,10 +69,10 @@ fn write_field(out: &mut [u8], at: usize, name: &[u8]) -> usize
     ensures { (result ≡ at + length (field_word ++ decimal (length name.now) (bytes_word ++ name.now)))
         × (out.new ≡ write at (field_word ++ decimal (length name.now) (bytes_word ++ name.now)) out.old) }
 {
-    write_slice(out, at, b", field ");
+    let _ = write_slice(out, at, b", field ");
     let next = write_decimal(out, at + 8, name.len());
-    write_slice(out, next, b" bytes ");
-    write_slice(out, next + 7, name);
+    let _ = write_slice(out, next, b" bytes ");
+    let _ = write_slice(out, next + 7, name);
     next + 7 + name.len()
 }
 

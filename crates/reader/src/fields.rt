@@ -99,7 +99,7 @@ fn part_at(v: &[u8], k: usize) -> FieldPlace
     ensures { result ≡ part_at v.now (get_or (object_offsets v.now) k 0) }
 {
     let start = object_from(v) + stored_offset(v, k);
-    let end = start + value_length(&v[start..]);
+    let end = start + value_length(&v[start..]).unwrap_or(0);
     FieldPlace::Part {
         start: start,
         end: end,

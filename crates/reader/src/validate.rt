@@ -60,7 +60,7 @@ fn values_ok(d: &[u8], v: &[u8], depth: usize) -> bool
 {
     let mut at = 0;
     while at < v.len() {
-        let n = value_length(&v[at..]);
+        let n = value_length(&v[at..]).unwrap_or(0);
         if n == 0 {
             break;
         }

@@ -21,7 +21,7 @@ pub fn is_scalar(v: &[u8]) -> bool
     if 1 < v[0] % 4 {
         return false;
     }
-    if value_length(v) != v.len() {
+    if value_length(v).unwrap_or(0) != v.len() {
         return false;
     }
     !is_outside(v)

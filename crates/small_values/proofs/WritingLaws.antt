@@ -8,8 +8,7 @@ use lib.Dec.{eqb, leb, ltb}
 use lib.ListN.{length, take, drop, get_or, length-append}
 use borrow.Author.Tests.{lt-leb, le-leb, lt-ltb, le-ltb, ne_eqb, eq-eqb, eqb-true}
 use Rattle.encoding.specs.Rows.{first, order, in_order}
-use Rattle.encoding.specs.Slices.{write}
-use Rattle.encoding.specs.declared.slices.Placed.{Placed}
+use Rattle.encoding.specs.Slices.{Placed, write}
 use Rattle.encoding.proofs.SliceLaws.{length_write, write_none, write_write}
 use Rattle.value.specs.Scalar.{type_of_byte}
 use Rattle.metadata.specs.Names.{Name, same, ascending}

@@ -84,7 +84,7 @@ fn add_value(out: &mut [u8], used: usize, string: &[u8]) -> usize
     ensures { (result ≡ used + length_of (records_bytes (map (record_of never_used) (keep (string.now ∷ [])))))
         × (out.new ≡ write used (records_bytes (map (record_of never_used) (keep (string.now ∷ [])))) out.old) }
 {
-    if value_length(string) != string.len() {
+    if value_length(string).unwrap_or(0) != string.len() {
         return used;
     }
     if read_pair(b"\x01\x00\x00", string) != 0 {

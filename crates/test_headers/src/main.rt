@@ -2,7 +2,7 @@
 // The file `stdout` was not made by this program but by the model, written apart from this code.
 #![tactic(auto)]
 
-use container::{Closed, Entry, Frame, close_object, put_entry, search_entries};
+use container::{CloseError, Entry, Frame, close_object, put_entry, search_entries};
 use encoding::slices::write_slice;
 use list::close_list;
 use metadata::{MetadataBuilder, add_field_name};
@@ -73,7 +73,7 @@ fn values<W: Write>(
     floor: usize,
 ) -> io::Result<()> {
     let mut value = [0u8; 64];
-    write_slice(&mut value, 0, data);
+    let _ = write_slice(&mut value, 0, data);
     let size = data.len();
     let closed = close_list(0, size, count, floor, &mut value);
     line(to, label, closed, size, &value)
@@ -98,7 +98,7 @@ fn no_fields<W: Write>(to: &mut W, label: &[u8]) -> io::Result<()> {
 fn object<W: Write>(to: &mut W, label: &[u8], id: usize) -> io::Result<()> {
     let mut value = [0u8; 64];
     let mut entries = [0usize; 4];
-    put_entry(&mut entries, 0, Entry { id, offset: 0 });
+    let _ = put_entry(&mut entries, 0, Entry { id, offset: 0 });
     let most = largest(&entries, 1);
     let closed = close_object(
         frame(1, 1),
@@ -119,8 +119,8 @@ fn two_fields<W: Write>(to: &mut W, label: &[u8]) -> io::Result<()> {
     let ba = with(b, &mut text, &mut ends, b"a");
     let mut value = [0u8; 64];
     let mut entries = [0usize; 4];
-    put_entry(&mut entries, 0, Entry { id: 0, offset: 0 });
-    put_entry(&mut entries, 1, Entry { id: 1, offset: 2 });
+    let _ = put_entry(&mut entries, 0, Entry { id: 0, offset: 0 });
+    let _ = put_entry(&mut entries, 1, Entry { id: 1, offset: 2 });
     let most = largest(&entries, 2);
     let closed = close_object(
         frame(4, 2),
@@ -157,13 +157,13 @@ fn frame(used: usize, to: usize) -> Frame {
 fn line<W: Write>(
     to: &mut W,
     label: &[u8],
-    closed: Closed,
+    closed: Result<usize, CloseError>,
     size: usize,
     value: &[u8],
 ) -> io::Result<()> {
     print::text(to, label)?;
     match closed {
-        Closed::Done(used) => {
+        Ok(used) => {
             print::text(to, b": ")?;
             let n = saturating_sub(used, size);
             print::decimal(to, n as u64)?;
@@ -171,10 +171,10 @@ fn line<W: Write>(
             print::front(to, value, n)?;
             print::text(to, b"\n")?;
         }
-        Closed::Damaged => {
+        Err(CloseError::Damaged) => {
             print::text(to, b" refused 1\n")?;
         }
-        Closed::NoRoom => {
+        Err(CloseError::NoRoom) => {
             print::text(to, b" refused 14\n")?;
         }
     }

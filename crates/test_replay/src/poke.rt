@@ -153,9 +153,9 @@ fn name_end(ends: &mut [usize], at: usize, n: usize) {
 }
 
 fn entry(entries: &mut [usize], at: usize, id: usize, offset: usize) {
-    put_entry(entries, at, Entry { id, offset });
+    let _ = put_entry(entries, at, Entry { id, offset });
 }
 
 fn bytes(into: &mut [u8], at: usize, operand: &[u8]) {
-    write_slice(into, at, operand);
+    let _ = write_slice(into, at, operand);
 }

@@ -5,7 +5,7 @@
 // itself, with equal bytes; both give the dictionary [1, 0, 0] beside each of these values.
 #![tactic(auto)]
 
-use encoding::slices::Placed;
+use encoding::slices::NoRoom;
 use std::io;
 use std::io::Write;
 use value::decimal::{VariantDecimal4, VariantDecimal8, VariantDecimal16};
@@ -420,14 +420,14 @@ fn uuid<W: Write>(to: &mut W, label: &[u8], id: [u8; 16]) -> io::Result<()> {
 }
 
 // The first n bytes of buf, where they were written.
-fn answer<W: Write>(to: &mut W, done: Placed, buf: &[u8], n: usize) -> io::Result<()> {
+fn answer<W: Write>(to: &mut W, done: Result<(), NoRoom>, buf: &[u8], n: usize) -> io::Result<()> {
     match done {
-        Placed::Done => {
+        Ok(()) => {
             print::text(to, b" ")?;
             print::hex(to, buf, n)?;
             print::text(to, b"\n")?;
         }
-        Placed::NoRoom => {
+        Err(NoRoom) => {
             print::text(to, b" refused 14\n")?;
         }
     }

@@ -19,9 +19,9 @@ returns-then-n-ne0 c = closes_early c.close_number-d.ensures c.if-n-ne0.true
 pub put_header-r-requires : goal.put_header-r-requires
 put_header-r-requires c = (left (goal.at.put_header-r-requires c).Else-n-ne0).most
 
-pub returns-in-Done : goal.returns-in-Done
-returns-in-Done c =
-    leaves_closed (left (goal.at.returns-in-Done c).Else-n-ne0) (c.put_header-r.ensures _) c.in-Done.is
+pub returns-in_ok : goal.returns-in_ok
+returns-in_ok c =
+    leaves_closed (left (goal.at.returns-in_ok c).Else-n-ne0) (c.put_header-r.ensures _) c.in_ok.is
 
 pub returns-in-Damaged : goal.returns-in-Damaged
 returns-in-Damaged c =

@@ -7,8 +7,8 @@ use Rattle.container.proofs.entries.put_entry.Goals as goal
 pub returns-then-k-entries : goal.returns-then-k-entries
 returns-then-k-entries c = notes_done _ _ _ c.if-k-entries.true
 
-pub returns : goal.returns
-returns c = notes_none _ _ _ c.if-k-entries.false
+pub returns-else-k-entries : goal.returns-else-k-entries
+returns-else-k-entries c = notes_none _ _ _ _ c.if-k-entries.false
 
 pub bounds-entries-q : goal.bounds-entries-q
 bounds-entries-q c = simp length-set (omega arith)

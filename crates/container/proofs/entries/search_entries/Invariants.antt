@@ -1,4 +1,4 @@
-use Prim.Native.Nat.{◌+◌, ◌-◌}
+use Prim.Native.Nat.{◌+◌}
 use Rattle.container.specs.Layout.{largest}
 use Rattle.container.specs.Entries.{ids_of, misplaced, range_of, seek}
 use Rattle.container.proofs.EntryWalk.{Walks}
@@ -6,7 +6,4 @@ use Rattle.container.proofs.entries.search_entries.Given as goal
 
 abbrev pub invariant-loop-k : goal.invariant-loop-k
 invariant-loop-k l =
-    Walks (misplaced l.object l.names l.size (range_of l.entries l.from l.to)) (l.from + seek l.id (range_of l.entries l.from l.to)) (largest (ids_of (range_of l.entries l.from l.to))) l.object l.names l.size l.id l.entries l.end l.bad l.met l.place l.most l.k
-
-abbrev pub decreases-loop-k : goal.decreases-loop-k
-decreases-loop-k l = l.end - l.k
+    Walks (misplaced l.object l.names l.size (range_of l.entries l.from l.to)) (l.from + seek l.id (range_of l.entries l.from l.to)) (largest (ids_of (range_of l.entries l.from l.to))) l.object l.names l.size l.id l.entries l.end l.misplaced l.first l.largest l.k

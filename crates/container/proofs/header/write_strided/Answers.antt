@@ -1,19 +1,17 @@
 -- The numbers still to be written, written where the loop stands, give the whole.
 use native.Mathlib.Omega.{arith}
-use Rattle.container.proofs.HeaderLaws.{strides_start, strides_room, strides_again, strides_end}
+use mathlib.Core.Path.{◌≡◌}
+use Prim.Native.Nat.{◌+◌, ◌-◌, ◌*◌}
+use Rattle.container.proofs.HeaderLaws.{strides_again, strides_end}
 use Rattle.container.proofs.header.write_strided.Goals as goal
 
-pub loop-left-init : goal.loop-left-init
-loop-left-init c = strides_start _ _ _ _ _ _ c.requires.n_bound c.requires.n_in_bounds
-
-pub overflow_add-at : goal.overflow_add-at
-overflow_add-at c = omega (arith, strides_room c.loop-left.invariant (omega arith))
-
-pub loop-left-preserved : goal.loop-left-preserved
-loop-left-preserved c = strides_again c.loop-left.invariant (omega arith) c.write_packed.ensures
-
-pub shape_of-value : goal.shape_of-value
-shape_of-value c = c.loop-left.invariant.size
+pub loop-k-preserved : goal.loop-k-preserved
+loop-k-preserved c =
+    let a = c.args in
+    let k = c.loop-k.k in
+    let p : a.p + 2 * k + 2 ≡ a.p + 2 * (k + 1) = omega arith in
+    let n : a.n - k - 1 ≡ a.n - (k + 1) = omega arith in
+    rw (p, n) at (strides_again c.loop-k.invariant (omega arith) c.put_packed.ensures)
 
 pub returns : goal.returns
-returns c = strides_end c.loop-left.invariant (omega arith)
+returns c = strides_end c.loop-k.invariant (omega arith)

@@ -6,6 +6,3 @@ use Rattle.container.proofs.object.sort.Given as goal
 
 abbrev pub invariant-loop-j : goal.invariant-loop-j
 invariant-loop-j l = Sorts (names_of l.m l.text l.ends) (sorted_in (names_of l.m l.text l.ends) l.from l.to l.initial.entries) l.from l.to (length l.initial.entries) l.entries l.j
-
-abbrev pub decreases-loop-j : goal.decreases-loop-j
-decreases-loop-j l = l.j

@@ -1,6 +1,7 @@
 -- The numbers that are left, beside the values that are left, decide as all of them do.
 use native.Mathlib.Omega.{arith}
 use mathlib.Core.Path.{sym, ◌∙◌}
+use Rattle.measure.proofs.MeasureLaws.{length_or_zero}
 use Rattle.lexicon.proofs.NameLaws.{numbered}
 use Rattle.header_reader.proofs.TableLaws.{beside_start, beside_value, beside_within, beside_other, beside_none, beside_again, beside_end}
 use Rattle.header_reader.proofs.lists.are_starts.Goals as goal
@@ -14,11 +15,11 @@ returns-then-read_packed-at c =
 
 pub returns-then-n-eq0 : goal.returns-then-n-eq0
 returns-then-n-eq0 c =
-    beside_none c.loop-left.invariant c.loop-left-test.true (sym (beside_value c.loop-left.invariant c.value_length-n.ensures) ∙ c.if-n-eq0.true)
+    beside_none c.loop-left.invariant c.loop-left-test.true (sym (beside_value c.loop-left.invariant (length_or_zero _ _ _ c.value_length.ensures c.unwrap_or-n.ensures)) ∙ c.if-n-eq0.true)
 
 pub overflow_add-at : goal.overflow_add-at
 overflow_add-at c =
-    omega (arith, beside_within c.loop-left.invariant c.value_length-n.ensures)
+    omega (arith, beside_within c.loop-left.invariant (length_or_zero _ _ _ c.value_length.ensures c.unwrap_or-n.ensures))
 
 pub overflow_add-p : goal.overflow_add-p
 overflow_add-p c =
@@ -27,11 +28,11 @@ overflow_add-p c =
 pub loop-left-preserved : goal.loop-left-preserved
 loop-left-preserved c =
     let n = c.if-n-eq0.false in
-    beside_again c.loop-left.invariant c.loop-left-test.true (numbered c.requires.0 c.read_packed.ensures) (beside_value c.loop-left.invariant c.value_length-n.ensures) (omega arith) c.if-read_packed-at.false
+    beside_again c.loop-left.invariant c.loop-left-test.true (numbered c.requires.0 c.read_packed.ensures) (beside_value c.loop-left.invariant (length_or_zero _ _ _ c.value_length.ensures c.unwrap_or-n.ensures)) (omega arith) c.if-read_packed-at.false
 
 pub returns : goal.returns
 returns c =
-    beside_end c.loop-left.invariant c.loop-left-test.false (beside_value c.loop-left.invariant c.value_length.ensures)
+    beside_end c.loop-left.invariant c.loop-left-test.false (beside_value c.loop-left.invariant (length_or_zero _ _ _ c.value_length-2.ensures c.unwrap_or.ensures))
 
 pub slice_bounds-value_length-count : goal.slice_bounds-value_length-count
 slice_bounds-value_length-count c = c.loop-left.invariant.high

@@ -1,11 +1,12 @@
 -- What is left from a place on begins with the value.
 use native.Mathlib.Omega.{arith}
+use Rattle.measure.proofs.MeasureLaws.{length_or_zero}
 use Rattle.measure.proofs.MeasureLaws.{measured_within}
 use Rattle.header_reader.proofs.StartLaws.{value_of_rest}
 use Rattle.header_reader.proofs.parts.value_from.Goals as goal
 
 pub slice_bounds-result-end : goal.slice_bounds-result-end
-slice_bounds-result-end c = omega (arith, c.value_length.ensures, measured_within c.part-rest.result.now)
+slice_bounds-result-end c = omega (arith, (length_or_zero _ _ _ c.value_length.ensures c.unwrap_or.ensures), measured_within c.part-rest.result.now)
 
 pub returns : goal.returns
-returns c = let a = c.args in value_of_rest a.v.now a.at c.part-rest.ensures c.value_length.ensures
+returns c = let a = c.args in value_of_rest a.v.now a.at c.part-rest.ensures (length_or_zero _ _ _ c.value_length.ensures c.unwrap_or.ensures)

@@ -1,6 +1,7 @@
 -- What is marked, with what the walk still meets, are the starts.
 use native.Mathlib.Omega.{arith}
 use mathlib.Core.Path.{refl}
+use Rattle.measure.proofs.MeasureLaws.{length_or_zero}
 use Rattle.header_reader.proofs.WindowLaws.{marking_start, marking_value, marking_within, marking_again, marking_none, marking_end}
 use Rattle.header_reader.proofs.windows.mark_starts.Goals as goal
 
@@ -9,7 +10,7 @@ loop-at-init c = let p = c.requires in marking_start p.cells_in_bounds.1 refl p.
 
 pub returns-then-n-eq0 : goal.returns-then-n-eq0
 returns-then-n-eq0 c =
-    marking_none c.loop-at.invariant (marking_value c.loop-at.invariant c.value_length-n.ensures) c.if-n-eq0.true c.requires.cells_in_bounds.0
+    marking_none c.loop-at.invariant (marking_value c.loop-at.invariant (length_or_zero _ _ _ c.value_length.ensures c.unwrap_or-n.ensures)) c.if-n-eq0.true c.requires.cells_in_bounds.0
 
 pub overflow_sub-cells : goal.overflow_sub-cells
 overflow_sub-cells c = c.loop-at.invariant.low
@@ -19,7 +20,7 @@ bounds-cells-at c = omega (arith, c.loop-at-test.true, c.loop-at.invariant.low, 
 
 pub overflow_add-at : goal.overflow_add-at
 overflow_add-at c =
-    omega (arith, marking_within c.loop-at.invariant c.value_length-n.ensures)
+    omega (arith, marking_within c.loop-at.invariant (length_or_zero _ _ _ c.value_length.ensures c.unwrap_or-n.ensures))
 
 pub loop-at-smaller : goal.loop-at-smaller
 loop-at-smaller c = let n = c.if-n-eq0.false in omega (arith, c.loop-at-test.true)
@@ -27,7 +28,7 @@ loop-at-smaller c = let n = c.if-n-eq0.false in omega (arith, c.loop-at-test.tru
 pub loop-at-preserved : goal.loop-at-preserved
 loop-at-preserved c =
     let n = c.if-n-eq0.false in
-    marking_again c.loop-at.invariant (marking_value c.loop-at.invariant c.value_length-n.ensures) c.loop-at-test.true (omega arith)
+    marking_again c.loop-at.invariant (marking_value c.loop-at.invariant (length_or_zero _ _ _ c.value_length.ensures c.unwrap_or-n.ensures)) c.loop-at-test.true (omega arith)
 
 pub returns : goal.returns
 returns c = marking_end c.loop-at.invariant c.loop-at-test.false

@@ -43,9 +43,9 @@ returns-then-fits c =
     closes_done _ _ _ _ _ c.damaged.ensures c.if-damaged.false (size (goal.at.returns-then-fits c).After-list_header_size-header) f c.if-fits.true
     (fronts_list _ _ _ _ _ _ (tested (goal.at.returns-then-fits c).Else-damaged).order c.list_header_size-header.ensures f c.if-fits.true c.shift_up.ensures c.write_list_header.ensures)
 
-pub returns : goal.returns
-returns c =
-    closes_none _ _ _ _ _ c.damaged.ensures c.if-damaged.false (size (goal.at.returns c).After-list_header_size-header) c.fits.ensures c.if-fits.false
+pub returns-else-fits : goal.returns-else-fits
+returns-else-fits c =
+    closes_none _ _ _ _ _ c.damaged.ensures c.if-damaged.false (size (goal.at.returns-else-fits c).After-list_header_size-header) c.fits.ensures c.if-fits.false
 
 pub overflow_sub-size : goal.overflow_sub-size
 overflow_sub-size c = (tested (goal.at.overflow_sub-size c).Else-damaged).order

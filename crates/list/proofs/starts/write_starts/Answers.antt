@@ -1,5 +1,6 @@
 -- The starts still to be written, written where the loop stands, give the whole; the data that they are read from lies behind them.
 use native.Mathlib.Omega.{arith}
+use Rattle.measure.proofs.MeasureLaws.{length_or_zero}
 use Rattle.list.proofs.StartLaws.{starts_start, starts_front, starts_high, starts_again, starts_end}
 use Rattle.list.proofs.starts.write_starts.Goals as goal
 
@@ -18,14 +19,14 @@ slice_bounds-value_length-end c =
 
 pub overflow_add-p : goal.overflow_add-p
 overflow_add-p c =
-    omega (arith, starts_high _ c.loop-left.invariant (omega arith) c.put_number.ensures c.value_length-p.ensures)
+    omega (arith, starts_high _ c.loop-left.invariant (omega arith) c.put_number.ensures (length_or_zero _ _ _ c.value_length.ensures c.unwrap_or-p.ensures))
 
 pub overflow_add-at : goal.overflow_add-at
 overflow_add-at c = omega (arith, starts_front c.loop-left.invariant (omega arith))
 
 pub loop-left-preserved : goal.loop-left-preserved
 loop-left-preserved c =
-    starts_again _ c.loop-left.invariant (omega arith) c.put_number.ensures c.value_length-p.ensures
+    starts_again _ c.loop-left.invariant (omega arith) c.put_number.ensures (length_or_zero _ _ _ c.value_length.ensures c.unwrap_or-p.ensures)
 
 pub shape_of-value : goal.shape_of-value
 shape_of-value c = c.loop-left.invariant.size

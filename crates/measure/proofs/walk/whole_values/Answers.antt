@@ -6,4 +6,4 @@ use Rattle.measure.proofs.walk.whole_values.Goals as goal
 
 pub returns : goal.returns
 returns c =
-    c.are_values.ensures ∙ ap (whole_values _) (data_cut c.min-from.result c.min-stop.result _ ∙ data_stop _ _ _ _ _ c.min-stop.ensures c.min-from.ensures)
+    c.are_values.ensures ∙ ap (whole_values _) (data_cut c.min.result c.min-stop.result _ ∙ data_stop _ _ _ _ _ c.min-stop.ensures c.min.ensures)

@@ -4,6 +4,7 @@ use native.Mathlib.Omega.{arith}
 use mathlib.Core.Path.{◌≡◌, sym, ◌∙◌}
 use Prim.Native.Nat.{◌+◌, ◌-◌}
 use lib.ListN.{take, drop}
+use Rattle.measure.proofs.MeasureLaws.{length_or_zero}
 use Rattle.metadata.specs.Bytes.{dictionary_names}
 use Rattle.grammar.specs.Tests.{is_value}
 use Rattle.header_reader.proofs.HeadLaws.{list_head_within, object_head_within}
@@ -42,34 +43,34 @@ pub object_ok-returns : goal.object_ok-returns
 object_ok-returns t c = object_headed _ _ c.requires c.if-depth-eq0.false c.object_head-from.ensures c.if-from-eq0.false c.values_ok.ensures
 
 pub values_ok-overflow_add-next : goal.values_ok-overflow_add-next
-values_ok-overflow_add-next t c = omega (arith, walks_room c.loop-at.invariant c.value_length-n.ensures)
+values_ok-overflow_add-next t c = omega (arith, walks_room c.loop-at.invariant (length_or_zero _ _ _ c.value_length.ensures c.unwrap_or-n.ensures))
 
 pub values_ok-slice_bounds-part-end : goal.values_ok-slice_bounds-part-end
-values_ok-slice_bounds-part-end t c = omega (arith, walks_room c.loop-at.invariant c.value_length-n.ensures)
+values_ok-slice_bounds-part-end t c = omega (arith, walks_room c.loop-at.invariant (length_or_zero _ _ _ c.value_length.ensures c.unwrap_or-n.ensures))
 
 pub values_ok-returns-then-not-ok : goal.values_ok-returns-then-not-ok
 values_ok-returns-then-not-ok t c =
-    let judged : c.match-v-at-rem4.ok ≡ is_value (dictionary_names c.args.d.now) c.args.depth (take (c.loop-at.at + c.value_length-n.result - c.loop-at.at) (drop c.loop-at.at c.args.v.now)) =
+    let judged : c.match-v-at-rem4.ok ≡ is_value (dictionary_names c.args.d.now) c.args.depth (take (c.loop-at.at + c.unwrap_or-n.result - c.loop-at.at) (drop c.loop-at.at c.args.v.now)) =
     elim c.match-v-at-rem4.branch [
       | values_ok-in-3 w ↦ w.ok-is ∙ w.list_ok-ok.ensures
       | values_ok-in-2 w ↦ w.ok-is ∙ w.object_ok-ok.ensures
-      | values_ok-in_default w ↦ part_scalar c.loop-at.invariant c.value_length-n.ensures c.loop-at-test.true c.if-n-eq0.false _ _ w.in_default.in_default-own.rest.0.1 w.in_default.in_default-own.rest.1 (w.ok-is ∙ search rules)
+      | values_ok-in_default w ↦ part_scalar c.loop-at.invariant (length_or_zero _ _ _ c.value_length.ensures c.unwrap_or-n.ensures) c.loop-at-test.true c.if-n-eq0.false _ _ w.in_default.in_default-own.rest.0.1 w.in_default.in_default-own.rest.1 (w.ok-is ∙ search rules)
     ] in
-    walks_bad c.loop-at.invariant c.value_length-n.ensures c.loop-at-test.true c.if-n-eq0.false (sym judged ∙ c.if-not-ok.true)
+    walks_bad c.loop-at.invariant (length_or_zero _ _ _ c.value_length.ensures c.unwrap_or-n.ensures) c.loop-at-test.true c.if-n-eq0.false (sym judged ∙ c.if-not-ok.true)
 
 pub values_ok-loop-at-preserved : goal.values_ok-loop-at-preserved
 values_ok-loop-at-preserved t c =
-    let judged : c.match-v-at-rem4.ok ≡ is_value (dictionary_names c.args.d.now) c.args.depth (take (c.loop-at.at + c.value_length-n.result - c.loop-at.at) (drop c.loop-at.at c.args.v.now)) =
+    let judged : c.match-v-at-rem4.ok ≡ is_value (dictionary_names c.args.d.now) c.args.depth (take (c.loop-at.at + c.unwrap_or-n.result - c.loop-at.at) (drop c.loop-at.at c.args.v.now)) =
     elim c.match-v-at-rem4.branch [
       | values_ok-in-3 w ↦ w.ok-is ∙ w.list_ok-ok.ensures
       | values_ok-in-2 w ↦ w.ok-is ∙ w.object_ok-ok.ensures
-      | values_ok-in_default w ↦ part_scalar c.loop-at.invariant c.value_length-n.ensures c.loop-at-test.true c.if-n-eq0.false _ _ w.in_default.in_default-own.rest.0.1 w.in_default.in_default-own.rest.1 (w.ok-is ∙ search rules)
+      | values_ok-in_default w ↦ part_scalar c.loop-at.invariant (length_or_zero _ _ _ c.value_length.ensures c.unwrap_or-n.ensures) c.loop-at-test.true c.if-n-eq0.false _ _ w.in_default.in_default-own.rest.0.1 w.in_default.in_default-own.rest.1 (w.ok-is ∙ search rules)
     ] in
-    walks_again c.loop-at.invariant c.value_length-n.ensures c.loop-at-test.true c.if-n-eq0.false (sym judged ∙ c.if-not-ok.false)
+    walks_again c.loop-at.invariant (length_or_zero _ _ _ c.value_length.ensures c.unwrap_or-n.ensures) c.loop-at-test.true c.if-n-eq0.false (sym judged ∙ c.if-not-ok.false)
 
 pub values_ok-returns : goal.values_ok-returns
 values_ok-returns t c =
     elim c.loop-at-test.branch [
       | values_ok-else-loop-at-test w ↦ walks_end c.loop-at.invariant w.loop-at-test.false
-      | values_ok-then-loop-at-test+then-n-eq0 w ↦ walks_cut c.loop-at.invariant w.value_length-n.ensures w.loop-at-test.true w.if-n-eq0.true
+      | values_ok-then-loop-at-test+then-n-eq0 w ↦ walks_cut c.loop-at.invariant (length_or_zero _ _ _ w.value_length.ensures w.unwrap_or-n.ensures) w.loop-at-test.true w.if-n-eq0.true
     ]

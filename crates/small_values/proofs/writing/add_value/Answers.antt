@@ -3,6 +3,7 @@ use mathlib.Core.Path.{◌≡◌}
 use native.Mathlib.Omega.{arith}
 use Prim.Native.Nat.{◌+◌, ◌≤◌}
 use lib.ListN.{length}
+use Rattle.measure.proofs.MeasureLaws.{length_or_zero}
 use Rattle.batch.specs.Layout.{record_bytes, record_of}
 use Rattle.metadata.specs.Bytes.{never_used}
 use Rattle.small_values.proofs.WritingLaws.{bytes_of, other_length, refused, taken, none_added, one_added, one_room}
@@ -20,8 +21,8 @@ room : (c : After-slice_known-2-1) → let a = c.args in
 room c =
     one_room _ _ _ c.requires.string_in_bounds (value (up-Else-read_pair-ne0 _ _ _ _ c.before.before.before.before.before.before.before))
 
-pub returns-then-value_length-string : goal.returns-then-value_length-string
-returns-then-value_length-string c = none_added _ _ _ (other_length _ c.value_length.ensures c.if-value_length-string.true)
+pub returns-then-unwrap_or-string : goal.returns-then-unwrap_or-string
+returns-then-unwrap_or-string c = none_added _ _ _ (other_length _ (length_or_zero _ _ _ c.value_length.ensures c.unwrap_or.ensures) c.if-unwrap_or-string.true)
 
 pub returns-then-read_pair-ne0 : goal.returns-then-read_pair-ne0
 returns-then-read_pair-ne0 c = none_added _ _ _ (refused _ c.read_pair.ensures c.if-read_pair-ne0.true)

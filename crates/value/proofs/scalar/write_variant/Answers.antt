@@ -1,13 +1,7 @@
 -- The parts are written where they fit, and they are the scalar.
-use mathlib.Core.Path.{◌∙◌, sym}
 use lib.ListN.{length}
 use Rattle.encoding.proofs.SliceLaws.{fits_size, leaves_done, leaves_none}
 use Rattle.value.proofs.scalar.write_variant.Goals as goal
-
-pub write_parts-requires : goal.write_parts-requires
-write_parts-requires c =
-    let a = c.args in
-    sym (fits_size a.at _ _ (length a.buf.now) c.fits.ensures c.parts_size.ensures) ∙ c.if-fits.true
 
 pub returns-then-fits : goal.returns-then-fits
 returns-then-fits c =
@@ -15,8 +9,8 @@ returns-then-fits c =
     rw (← c.parts_of-p.ensures)
     (leaves_done (fits_size a.at _ _ (length a.buf.now) c.fits.ensures c.parts_size.ensures) c.if-fits.true c.write_parts.ensures)
 
-pub returns : goal.returns
-returns c =
+pub returns-else-fits : goal.returns-else-fits
+returns-else-fits c =
     let a = c.args in
     rw (← c.parts_of-p.ensures)
     (leaves_none (fits_size a.at _ _ (length a.buf.now) c.fits.ensures c.parts_size.ensures) c.if-fits.false)

@@ -3,7 +3,7 @@ use mathlib.Core.Path.{◌≡◌, sym, ◌∙◌}
 use borrow.Author.Tests.{eqb-true, eqb-false}
 use Rattle.std.proofs.Common.{rules, get_or}
 use native.Mathlib.Omega.{arith}
-use Rattle.text_search.proofs.KindLaws.{least_text, least_none, least_other, least_deep, least_list, least_object}
+use Rattle.text_search.proofs.KindLaws.{least_text, least_other, least_deep, least_list, least_object}
 use Rattle.text_search.proofs.WalkLaws.{elements_start, elements_again, elements_cut, elements_end}
 use Rattle.text_search.proofs.WalkLaws.{fields_start, fields_skip, fields_again, fields_end}
 use Rattle.text_search.proofs.search.+least_element_least_field_least_value.Goals as goal

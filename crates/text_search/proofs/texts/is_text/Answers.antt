@@ -1,5 +1,5 @@
 -- A text by its first byte.
-use Rattle.std.proofs.Common.{rules, ◌≡◌}
+use Rattle.std.proofs.Common.{rules}
 use native.Mathlib.Omega.{arith}
 use Rattle.text_search.proofs.KindLaws.{text_none, text_short, text_long, text_cut, text_other}
 use Rattle.text_search.proofs.texts.is_text.Goals as goal

@@ -1,13 +1,13 @@
 -- A value's parts: how many there are, and each by its number.
 use mathlib.Core.Path.{◌≡◌, refl, sym, ◌∙◌, ap}
-use mathlib.Core.Bool.{Bool, true, false}
+use mathlib.Core.Bool.{Bool, true, false, cond}
 use mathlib.Core.List.{List, [], ◌∷◌, ◌++◌}
 use mathlib.Core.Option.{none}
 use Prim.Native.Nat.{ℕ, zero, suc, ◌+◌, ◌*◌, ◌%◌, ◌≤◌, ◌<◌}
 use native.Mathlib.Omega.{arith}
-use lib.ListN.{length, take, drop, get_or, get_or-eq_default}
+use lib.ListN.{length, take, drop, get_or}
 use lib.Seq.{drop-cons, take-suc}
-use borrow.Author.Tests.{eqb-true, ne_eqb}
+use borrow.Author.Tests.{eqb-true, ne_eqb, lt-ltb}
 use Rattle.metadata.specs.Names.{Name}
 use Rattle.container.specs.Layout.{count_size}
 use Rattle.lexicon.proofs.ByteLaws.{length_numbers}
@@ -15,7 +15,10 @@ use Rattle.grammar.specs.Tests.{offset_width, id_width, list_large, list_table, 
 use Rattle.grammar.specs.Tests.{id_table, object_count, stored_ids, offset_table, object_offsets, object_from}
 use Rattle.header_reader.specs.Heads.{value_from}
 use Rattle.header_reader.proofs.TableLaws.{row_small}
-use Rattle.children.specs.Children.{is_list, is_object, Part, held_name, element_parts, field_parts, parts_of, no_part, part_at}
+use Rattle.std.specs.Prelude.{Some}
+use Rattle.children.specs.declared.Kind.{Kind}
+use Rattle.children.specs.declared.Kind.TheVariants as kind
+use Rattle.children.specs.Children.{is_list, is_object, kind_of, child_bytes, Part, held_name, element_parts, field_parts, parts_of, no_part, part_at}
 
 -- ---- by offsets, and by ids and offsets
 
@@ -148,16 +151,37 @@ module _ (names : List Name) (v : List ℕ) (k : ℕ) where
 
 -- ---- as the code counts and cuts
 
-pub count_list : (v : List ℕ) {t : Bool} {n : ℕ} → t ≡ is_list v → t ≡ true → (n ≡ list_count v) × (n < 4294967296)
-    → (n ≡ length (parts_of [] v)) × (n < 4294967296)
-count_list v e q r = (r.0 ∙ sym (list_many [] v (sym e ∙ q)), r.1)
+module _ (v : List ℕ) {t : Kind} (e : t ≡ kind_of v) where
+  pub kind_list : t ≡ kind.List → is_list v ≡ true
+  kind_list q = go (is_list v) (is_object v) (sym q ∙ e)
+    where
+      go : (a b : Bool) → kind.List ≡ cond a kind.List (cond b kind.Object kind.Scalar) → a ≡ true
+      go true b h = refl
+      go false true h = absurd (cc)
+      go false false h = absurd (cc)
 
-pub count_object : (v : List ℕ) {t : Bool} {n : ℕ} → t ≡ is_object v → t ≡ true → (n ≡ object_count v) × (n < 4294967296)
-    → (n ≡ length (parts_of [] v)) × (n < 4294967296)
-count_object v e q r = (r.0 ∙ sym (object_many [] v (sym e ∙ q)), r.1)
+  pub kind_object : t ≡ kind.Object → is_object v ≡ true
+  kind_object q = go (is_list v) (is_object v) (sym q ∙ e)
+    where
+      go : (a b : Bool) → kind.Object ≡ cond a kind.List (cond b kind.Object kind.Scalar) → b ≡ true
+      go true b h = absurd (cc)
+      go false true h = refl
+      go false false h = absurd (cc)
 
-pub count_none : (v : List ℕ) {t u : Bool} → t ≡ is_list v → t ≡ false → u ≡ is_object v → u ≡ false → (0 ≡ length (parts_of [] v)) × (0 < 4294967296)
-count_none v e q f r = (ap length (sym (parts_none [] v (sym e ∙ q) (sym f ∙ r))), omega arith)
+  pub kind_other : (t ≡ kind.List → ⊥) → is_list v ≡ false
+  kind_other q = go (is_list v) refl
+    where
+      go : (a : Bool) → is_list v ≡ a → is_list v ≡ false
+      go true h = absurd (q (e ∙ (rw h)))
+      go false h = h
+
+  pub kind_scalar : t ≡ kind.Scalar → (is_list v ≡ false) × (is_object v ≡ false)
+  kind_scalar q = go (is_list v) (is_object v) (sym q ∙ e)
+    where
+      go : (a b : Bool) → kind.Scalar ≡ cond a kind.List (cond b kind.Object kind.Scalar) → (a ≡ false) × (b ≡ false)
+      go true b h = absurd (cc)
+      go false true h = absurd (cc)
+      go false false h = (refl, refl)
 
 -- where a list's data begins is far below 2 ^ 64
 count_few : (big : Bool) → count_size big ≤ 4
@@ -170,20 +194,18 @@ list_near v h =
     omega (arith, count_few (list_large v), row_small {w = offset_width v} {n = list_count v + 1} w (omega arith))
 
 -- of n children, the one of number k
-module _ (v : List ℕ) {n k : ℕ} (c : n ≡ length (parts_of [] v)) where
-  pub child_none : n ≤ k → [] ≡ (part_at [] v k).bytes
-  unfolding part_at
-  child_none h = ap (λ (p : Part). p.bytes) (sym (get_or-eq_default (parts_of [] v) no_part {n = k} (rw c at h)))
+module _ (v : List ℕ) {n k : ℕ} (c : n ≡ length (parts_of [] v)) (h : k < n) where
+  child_some : {r : List ℕ} → r ≡ (part_at [] v k).bytes → Some r ≡ child_bytes v k
+  child_some {r} e = rw (lt-ltb k (length (parts_of [] v)) (rw c at h), e)
 
-  module _ (h : k < n) where
-    -- what has children and is no list is an object
-    has_fields : (u : Bool) → is_object v ≡ u → is_list v ≡ false → is_object v ≡ true
-    has_fields true x y = x
-    has_fields false x y = absurd (omega (arith, h, c ∙ ap length (parts_none [] v y x)))
+  -- what has children and is no list is an object
+  has_fields : (u : Bool) → is_object v ≡ u → is_list v ≡ false → is_object v ≡ true
+  has_fields true x y = x
+  has_fields false x y = absurd (omega (arith, h, c ∙ ap length (parts_none [] v y x)))
 
-    module _ {from o : ℕ} {t : Bool} {r : List ℕ} (e : t ≡ is_list v) where
-      pub child_element : t ≡ true → from ≡ list_from v → o ≡ get_or (list_offsets v) k 0 → r ≡ value_from (from + o) v → r ≡ (part_at [] v k).bytes
-      child_element q f g m = rw (list_part [] v k (sym e ∙ q) (rw c at h)) (rw (f, g) at m)
+  module _ {from o at : ℕ} {r : List ℕ} (q : at ≡ from + o) (m : r ≡ value_from at v) where
+    pub child_element : is_list v ≡ true → from ≡ list_from v → o ≡ get_or (list_offsets v) k 0 → Some r ≡ child_bytes v k
+    child_element e f g = child_some (rw (list_part [] v k e (rw c at h)) (rw (q, f, g) at m))
 
-      pub child_field : t ≡ false → from ≡ object_from v → o ≡ get_or (object_offsets v) k 0 → r ≡ value_from (from + o) v → r ≡ (part_at [] v k).bytes
-      child_field q f g m = rw (object_part [] v k (has_fields (is_object v) refl (sym e ∙ q)) (rw c at h)) (rw (f, g) at m)
+    pub child_field : is_list v ≡ false → from ≡ object_from v → o ≡ get_or (object_offsets v) k 0 → Some r ≡ child_bytes v k
+    child_field e f g = child_some (rw (object_part [] v k (has_fields (is_object v) refl e) (rw c at h)) (rw (q, f, g) at m))

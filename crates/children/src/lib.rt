@@ -2,53 +2,52 @@
 // anything of its caller.
 #![tactic(auto)]
 
-ghost use Rattle.std.specs.Prelude.{◌≡◌, [], ◌<◌, length};
-ghost use Rattle.children.specs.Children.{is_list, is_object, part_at, parts_of};
+ghost use Rattle.std.specs.Prelude.{◌≡◌, [], ◌<◌, length, option_copied};
+ghost use Rattle.children.specs.Children.{child_bytes, kind_of, parts_of};
 
 use header_reader::{
     count_of_fields, list_count, list_from, list_offset, object_from, stored_offset, value_from,
 };
 
-pub fn is_list(v: &[u8]) -> bool
-    ensures { result ≡ is_list v.now }
-{
-    if v.len() == 0 {
-        return false;
-    }
-    v[0] % 4 == 3
+#[derive(Clone, Copy, PartialEq, Eq, Debug)]
+pub enum Kind {
+    Scalar,
+    Object,
+    List,
 }
 
-pub fn is_object(v: &[u8]) -> bool
-    ensures { result ≡ is_object v.now }
+// A value's kind; no bytes count as a scalar.
+pub fn kind_of(v: &[u8]) -> Kind
+    ensures { result ≡ kind_of v.now }
 {
-    if v.len() == 0 {
-        return false;
+    match v.first().copied().unwrap_or(0) % 4 {
+        3 => Kind::List,
+        2 => Kind::Object,
+        _ => Kind::Scalar,
     }
-    v[0] % 4 == 2
 }
 
 // How many there are; a scalar has none.
 pub fn child_count(v: &[u8]) -> usize
     ensures { (result ≡ length (parts_of [] v.now)) × (result < 4294967296) }
 {
-    if is_list(v) {
-        return list_count(v);
+    match kind_of(v) {
+        Kind::List => list_count(v),
+        Kind::Object => count_of_fields(v),
+        Kind::Scalar => 0,
     }
-    if is_object(v) {
-        return count_of_fields(v);
-    }
-    0
 }
 
-// The bytes of child k; none where there is no such child.
-pub fn child(v: &[u8], k: usize) -> &[u8]
-    ensures { result.now ≡ (part_at [] v.now k).bytes }
+// The bytes of child k, if there is one.
+pub fn child(v: &[u8], k: usize) -> Option<&[u8]>
+    ensures { option_copied result ≡ child_bytes v.now k }
 {
     if child_count(v) <= k {
-        return &v[0..0];
+        return None;
     }
-    if is_list(v) {
-        return value_from(v, list_from(v) + list_offset(v, k));
-    }
-    value_from(v, object_from(v) + stored_offset(v, k))
+    let start = match kind_of(v) {
+        Kind::List => list_from(v) + list_offset(v, k),
+        _ => object_from(v) + stored_offset(v, k),
+    };
+    Some(value_from(v, start))
 }

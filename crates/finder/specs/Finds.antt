@@ -1,5 +1,5 @@
 -- Document 02, A12: "Given a tag, find the first live text equal to it, in order of data, and write its path".
-use Rattle.std.specs.Prelude.{◌≡◌, Bool, true, false, cond, not, List, [], ◌∷◌, ◌++◌, ℕ, eqb, length}
+use Rattle.std.specs.Prelude.{◌≡◌, Result, Ok, Err, Bool, true, false, cond, not, List, [], ◌∷◌, ◌++◌, ℕ, eqb, length}
 use Rattle.std.proofs.Math.Option.{Option, none, some}
 use Rattle.encoding.specs.Rows.{Row, row, first}
 use Rattle.encoding.specs.Slices.{fits, write}
@@ -7,8 +7,8 @@ use Rattle.metadata.specs.Names.{Name}
 use Rattle.grammar.specs.Grammar.{Shape, ReadsPair}
 use Rattle.grammar.specs.Tests.{pair_rows}
 use Rattle.live.specs.Texts.{words_for}
-use Rattle.finder.specs.declared.TextFound.{TextFound}
-use Rattle.finder.specs.declared.TextFound.TheVariants.{Words, Missing, NoRoom, Refused}
+use Rattle.finder.specs.declared.find.FindError.{FindError}
+use Rattle.finder.specs.declared.find.FindError.TheVariants.{Read, Missing, NoRoom}
 
 -- what is said of a tag: nothing where no live text equals it
 abbrev pub unsaid : Option (List ℕ) → Bool
@@ -28,20 +28,18 @@ abbrev pub order_with_missing : List ℕ
 order_with_missing = 26 ∷ 1 ∷ 21 ∷ 2 ∷ 3 ∷ 4 ∷ 5 ∷ 6 ∷ 22 ∷ 18 ∷ 7 ∷ 17 ∷ 8 ∷ 9 ∷ 10 ∷ 11 ∷ 12 ∷ 13 ∷ 23 ∷ 19 ∷ 20 ∷ 25 ∷ 14 ∷ 15 ∷ 16 ∷ 24 ∷ []
 
 -- an answer's number in the table, and how many bytes it says are written
-abbrev pub found_number : TextFound → ℕ
-found_number (Words n) = 0
-found_number Missing = 25
-found_number NoRoom = 14
-found_number (Refused n) = n
+abbrev pub found_number : Result ℕ FindError → ℕ
+found_number (Ok n) = 0
+found_number (Err Missing) = 25
+found_number (Err NoRoom) = 14
+found_number (Err (Read n)) = n
 
-abbrev pub found_written : TextFound → ℕ
-found_written (Words n) = n
-found_written Missing = 0
-found_written NoRoom = 0
-found_written (Refused n) = 0
+abbrev pub found_written : Result ℕ FindError → ℕ
+found_written (Ok n) = n
+found_written (Err e) = 0
 
 -- the words stand at the front of the output, and of that nothing else is written; a refused call writes nothing
-pub record FindsText (d v wanted out : List ℕ) (r : TextFound) (after : List ℕ) : Type 0 where
+pub record FindsText (d v wanted out : List ℕ) (r : Result ℕ FindError) (after : List ℕ) : Type 0 where
   pub said : Option (List ℕ)
   -- by the pair's reading, of which there is at most one; a pair without one is refused before
   pub says : (w : ℕ) (mark : Bool) (names : List Name) (t : Shape) → ReadsPair d v w mark names t → said ≡ words_for names t wanted

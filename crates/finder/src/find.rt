@@ -1,26 +1,38 @@
 // The pair is judged first, then the least place of the text found, then its path written.
+ghost use Rattle.std.specs.Prelude.{◌≡◌};
 ghost use Rattle.finder.specs.Finds.{FindsText};
 
-use crate::TextFound;
-use path_words::{PathWords, write_path};
+use path_words::{NoRoom, write_path};
 use reader::read_pair;
 use text_search::least_place;
 
-// The words of the path to the first live text equal to `wanted`, in order of data, at the front of `out`.
-pub fn find_text(d: &[u8], v: &[u8], wanted: &[u8], out: &mut [u8]) -> TextFound
+// A pair that is not read, with 19 or 20; that no live text is the wanted one; that the words do not fit.
+#[derive(Clone, Copy, PartialEq, Eq, Debug)]
+pub enum FindError {
+    Read(u8),
+    Missing,
+    NoRoom,
+}
+
+impl From<NoRoom> for FindError {
+    ghost use Rattle.finder.specs.declared.find.FindError.{FindError};
+
+    ghost from_gives = { λ _ e. e ≡ FindError.NoRoom };
+
+    fn from(_e: NoRoom) -> FindError {
+        FindError::NoRoom
+    }
+}
+
+// The words of the path to the first live text equal to `wanted`, in order of data, at the front of `out`; how many bytes they are.
+pub fn find_text(d: &[u8], v: &[u8], wanted: &[u8], out: &mut [u8]) -> Result<usize, FindError>
     ensures { FindsText d.now v.now wanted.now out.old result out.new }
 {
     let number = read_pair(d, v);
     if number != 0 {
-        return TextFound::Refused(number);
+        return Err(FindError::Read(number));
     }
-    let place = least_place(v, wanted);
-    if v.len() <= place {
-        return TextFound::Missing;
-    }
-    let said = write_path(d, v, place, out);
-    match said {
-        PathWords::Written(n) => TextFound::Words(n),
-        PathWords::NoRoom => TextFound::NoRoom,
-    }
+    let place = least_place(v, wanted).ok_or(FindError::Missing)?;
+    let written = write_path(d, v, place, out)?;
+    Ok(written)
 }

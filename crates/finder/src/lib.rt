@@ -3,13 +3,4 @@
 
 mod find;
 
-pub use find::find_text;
-
-// How many bytes of words were written; that no live text is the wanted one; that the words do not fit; or 19 or 20.
-#[derive(Clone, Copy)]
-pub enum TextFound {
-    Words(usize),
-    Missing,
-    NoRoom,
-    Refused(u8),
-}
+pub use find::{FindError, find_text};

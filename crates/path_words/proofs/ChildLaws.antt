@@ -24,8 +24,8 @@ use Rattle.live.specs.Texts.{field_step, list_data, object_data}
 use Rattle.live.proofs.ListLaws.{some_inj, none_some}
 use Rattle.live.proofs.ChildLaws.{ValueAt, value_there, value_part, Stands, stands_low, stands_apart, among_stands}
 use Rattle.live.proofs.ChildLaws.{inner_fits, list_laid, object_laid, Start, start_parts}
-use Rattle.path_words.specs.declared.Child.TheVariants.{Element, Field}
-use Rattle.path_words.specs.Descent.{within, element_over, field_over, child_over}
+use Rattle.path_words.specs.declared.Step.TheVariants.{Element, Field}
+use Rattle.path_words.specs.Descent.{within, child_at, element_over, field_over, child_over}
 use Rattle.path_words.proofs.WalkLaws.{within_yes, within_before, within_behind, child_list, child_object}
 
 -- ---- a value where it starts, and a place
@@ -45,7 +45,7 @@ Values v from i at ts = (k n : ℕ) (t : Shape) → Stands k n t i at ts → Val
 
 elements_read : (names : List Name) (d : ℕ) (v : List ℕ) (from fuel k n : ℕ) (t : Shape) (i at : ℕ) (ts : Shapes) (q : ℕ)
     → FitsAll names d ts → Values v from i at ts → length v ≤ fuel + (from + at) → Stands k n t i at ts → q < length (layout t)
-    → element_over fuel v (from + n + q) i (from + at) ≡ Element k (from + n)
+    → element_over fuel v (from + n + q) i (from + at) ≡ child_at (Element k) (from + n)
 unfolding element_over
 elements_read names d v from fuel k n t i at grammar.none q f h e s l = absurd s
 elements_read names d v from zero k n t i at (grammar.more u ts) q f h e s l =
@@ -86,7 +86,7 @@ module _ (names : List Name) (v : List ℕ) (k n : ℕ) (t : Shape) (ts : Shapes
 
   fields_read : (es : List Entry) (w : Step) (q : ℕ) → starting (starts_from 0 (layouts ts)) (offsets_of es) ≡ true
       → field_step names es n ≡ some w → q < length (layout t)
-      → (i : ℕ) × (field_over v (object_from v + n + q) (ids_of es) (offsets_of es) ≡ Field i (object_from v + n)) × (field (name_at names i) ≡ w)
+      → (i : ℕ) × (field_over v (object_from v + n + q) (ids_of es) (offsets_of es) ≡ child_at (Field i) (object_from v + n)) × (field (name_at names i) ≡ w)
   unfolding field_over field_step
   fields_read [] w q g e l = absurd (none_some w e)
   fields_read (x ∷ es) w q g e l = go (eqb x.offset n) refl e (start_parts (starts_from 0 (layouts ts)) x.offset (offsets_of es) g) (fields_read es w q)
@@ -100,9 +100,9 @@ module _ (names : List Name) (v : List ℕ) (k n : ℕ) (t : Shape) (ts : Shapes
       go : (b : Bool) → eqb x.offset n ≡ b → cond b (some (field (name_at names x.id))) (field_step names es n) ≡ some w
           → Start (starts_from 0 (layouts ts)) x.offset (offsets_of es)
           → (starting (starts_from 0 (layouts ts)) (offsets_of es) ≡ true → field_step names es n ≡ some w → q < length (layout t)
-          → (i : ℕ) × (field_over v place (ids_of es) (offsets_of es) ≡ Field i (object_from v + n)) × (field (name_at names i) ≡ w))
-          → (i : ℕ) × (cond (within v place start) (Field x.id start) (field_over v place (ids_of es) (offsets_of es))
-          ≡ Field i (object_from v + n)) × (field (name_at names i) ≡ w)
+          → (i : ℕ) × (field_over v place (ids_of es) (offsets_of es) ≡ child_at (Field i) (object_from v + n)) × (field (name_at names i) ≡ w))
+          → (i : ℕ) × (cond (within v place start) (child_at (Field x.id) start) (field_over v place (ids_of es) (offsets_of es))
+          ≡ child_at (Field i) (object_from v + n)) × (field (name_at names i) ≡ w)
       go true p e r rest =
           let a = eqb-true x.offset n p in
           (x.id, rw (a, there_yes (h k n t s) place (omega arith) (omega arith)) refl, some_inj (field (name_at names x.id)) w e)
@@ -121,7 +121,7 @@ module _ (names : List Name) (d w : ℕ) (big : Bool) (ts : Shapes) (f : Fits na
       value_there names d list_bytes t (list_data w big ts + n) (inner_fits names d k n t ts f.2 s) (value_part head k n t ts s)
 
   pub list_child : (k n : ℕ) (t : Shape) (q : ℕ) → Stands k n t 0 0 ts → q < length (layout t)
-      → child_over list_bytes (list_data w big ts + n + q) ≡ Element k (list_data w big ts + n)
+      → child_over list_bytes (list_data w big ts + n + q) ≡ child_at (Element k) (list_data w big ts + n)
   list_child k n t q s l =
       let laid = list_laid names (suc d) w big ts f in
       let z : list_from list_bytes ≡ list_data w big ts + 0 = omega (arith, laid.from) in
@@ -142,11 +142,11 @@ module _ (names : List Name) (d w u : ℕ) (big : Bool) (es : List Entry) (ts : 
       value_there names d object_bytes t (object_data w u big es ts + n) (inner_fits names d k n t ts f.3 s) (value_part head k n t ts s)
 
   pub object_child : (k n : ℕ) (t : Shape) (step : Step) (q : ℕ) → Stands k n t 0 0 ts → field_step names es n ≡ some step → q < length (layout t)
-      → (i : ℕ) × (child_over object_bytes (object_data w u big es ts + n + q) ≡ Field i (object_data w u big es ts + n)) × (field (name_at names i) ≡ step)
+      → (i : ℕ) × (child_over object_bytes (object_data w u big es ts + n + q) ≡ child_at (Field i) (object_data w u big es ts + n)) × (field (name_at names i) ≡ step)
   object_child k n t step q s e l =
       let laid = object_laid names (suc d) w u big es ts f in
       let h : Values object_bytes (object_from object_bytes) 0 0 ts = rw laid.from object_values in
       let r = fields_read names object_bytes k n t ts s h es step q f.2.offsets e l in
-      let c : child_over object_bytes (object_from object_bytes + n + q) ≡ Field r.0 (object_from object_bytes + n) =
+      let c : child_over object_bytes (object_from object_bytes + n + q) ≡ child_at (Field r.0) (object_from object_bytes + n) =
       rw (child_object object_bytes (object_from object_bytes + n + q) laid.kind, laid.ids, laid.offsets) r.1 in
       (r.0, rw laid.from at c, r.2)

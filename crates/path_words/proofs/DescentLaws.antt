@@ -24,8 +24,8 @@ use Rattle.live.proofs.ChildLaws.{ValueAt, inner_fits, child_text}
 use Rattle.live.proofs.TextLaws.{leaf_text, first_found}
 use Rattle.live.proofs.PlaceLaws.{places_within}
 use Rattle.live.proofs.LeastLaws.{least_found, least_missing}
-use Rattle.path_words.specs.declared.Child.TheVariants.{Element, Field}
-use Rattle.path_words.specs.Descent.{child_over, path_in}
+use Rattle.path_words.specs.declared.Step.TheVariants.{Element, Field}
+use Rattle.path_words.specs.Descent.{child_at, child_over, path_in}
 use Rattle.path_words.proofs.WalkLaws.{child_scalar}
 use Rattle.path_words.proofs.ChildLaws.{list_values, list_child, object_values, object_child}
 
@@ -38,12 +38,12 @@ scalar_path names (suc d) p s =
     let low = scalar_first s in
     rw (← child_scalar (layout (grammar.scalar s)) p (λ e. absurd (omega arith)) (λ e. absurd (omega arith))) refl
 
-element_path : (names : List Name) (d : ℕ) (v : List ℕ) (n q k : ℕ) (t : Shape) → child_over v (n + q) ≡ Element k n → ValueAt v t n
+element_path : (names : List Name) (d : ℕ) (v : List ℕ) (n q k : ℕ) (t : Shape) → child_over v (n + q) ≡ child_at (Element k) n → ValueAt v t n
     → path_in (suc d) names (n + q) v ≡ element k ∷ path_in d names q (layout t)
 unfolding path_in
 element_path names d v n q k t e s = let z : n + q - n ≡ q = omega arith in rw (e, z, s.part) refl
 
-field_path : (names : List Name) (d : ℕ) (v : List ℕ) (n q i : ℕ) (t : Shape) → child_over v (n + q) ≡ Field i n → ValueAt v t n
+field_path : (names : List Name) (d : ℕ) (v : List ℕ) (n q i : ℕ) (t : Shape) → child_over v (n + q) ≡ child_at (Field i) n → ValueAt v t n
     → path_in (suc d) names (n + q) v ≡ field (name_at names i) ∷ path_in d names q (layout t)
 unfolding path_in
 field_path names d v n q i t e s = let z : n + q - n ≡ q = omega arith in rw (e, z, s.part) refl

@@ -2,7 +2,7 @@
 use mathlib.Core.Path.{◌≡◌, refl, ◌∙◌, ap}
 use mathlib.Core.Bool.{Bool, true, false, cond}
 use mathlib.Core.List.{List, [], ◌∷◌, ◌++◌, append_assoc}
-use Prim.Native.Nat.{ℕ, zero, suc, ◌+◌, ◌-◌, ◌/◌, ◌%◌, ◌^◌, ◌≤◌, ◌<◌}
+use Prim.Native.Nat.{ℕ, zero, suc, ◌+◌, ◌-◌, ◌*◌, ◌/◌, ◌%◌, ◌^◌, ◌≤◌, ◌<◌}
 use native.Mathlib.Nat.{pow-suc}
 use native.Mathlib.Omega.{arith}
 use lib.Dec.{ltb}
@@ -39,38 +39,28 @@ digits_last : (fuel n : ℕ) → n ≤ 9 → length (digits (suc fuel) n []) ≡
 unfolding digits
 digits_last fuel n h = rw (lt-ltb n 10 (omega arith))
 
--- ---- how many: those of what is left, and `size` behind them but for one
+power_some : (k : ℕ) → 0 < 10 ^ k
+power_some zero = omega arith
+power_some (suc k) = let p = pow-suc 10 k in let o = power_some k in omega arith
 
-pub record Sizes (total size left : ℕ) : Type 0 where
-  pub fuel : ℕ
-  pub rest : size + length (digits (suc fuel) left []) ≡ 1 + total
-  pub enough : left ≤ fuel
-  -- 20 digits are enough
-  pub spare : ℕ
-  pub most : size + spare ≡ 20
-  pub small : left < 10 ^ suc spare
+-- ---- how many: one more than the power of ten that is reached
 
-pub sizes_start : (n : ℕ) → n < 100000000000000000000 → Sizes (length (decimal n [])) 1 n
+digits_power : (k fuel n : ℕ) → n ≤ fuel → 10 ^ k ≤ n → n < 10 * 10 ^ k → length (digits (suc fuel) n []) ≡ suc k
+digits_power zero fuel n l h g = digits_last fuel n (omega arith)
+digits_power (suc k) zero n l h g = let p = pow-suc 10 k in let o = power_some k in absurd (omega arith)
+digits_power (suc k) (suc fuel) n l h g =
+    let p = pow-suc 10 k in
+    let o = power_some k in
+    let r = digits_power k fuel (n / 10) (omega arith) (omega arith) (omega arith) in
+    omega (arith, digits_more (suc fuel) n (omega arith))
+
+pub size_power : (k n : ℕ) → 10 ^ k ≤ n → n < 10 * 10 ^ k → k + 1 ≡ length (decimal n [])
 unfolding decimal
-sizes_start n h = record { fuel = n; rest = refl; enough = omega arith; spare = 19; most = refl; small = h }
+size_power k n h g = omega (arith, digits_power k n n (omega arith) h g)
 
-pub sizes_again : {total size left : ℕ} → Sizes total size left → 9 < left → Sizes total (size + 1) (left / 10)
-sizes_again {total} {size} {left} s h = go s.fuel s.rest s.enough s.spare s.most s.small
-  where
-    go : (fuel : ℕ) → size + length (digits (suc fuel) left []) ≡ 1 + total → left ≤ fuel → (spare : ℕ) → size + spare ≡ 20 → left < 10 ^ suc spare
-        → Sizes total (size + 1) (left / 10)
-    go zero e l spare m k = absurd (omega arith)
-    go (suc fuel) e l zero m k = absurd (omega arith)
-    go (suc fuel) e l (suc spare) m k =
-        let p = pow-suc 10 (suc spare) in
-        let n = digits_more (suc fuel) left h in
-        record { fuel = fuel; rest = omega arith; enough = omega arith; spare = spare; most = omega arith; small = omega arith }
-
-pub sizes_end : {total size left : ℕ} → Sizes total size left → left ≤ 9 → (size ≡ total) × (size ≤ 20)
-sizes_end {total} {size} {left} s h = (omega (arith, s.rest, digits_last s.fuel left h), omega (arith, s.most))
-
-pub sizes_room : {total size left : ℕ} → Sizes total size left → size ≤ 20
-sizes_room s = omega (arith, s.most)
+pub size_one : (n : ℕ) → n ≡ 0 → 1 ≡ length (decimal n [])
+unfolding decimal
+size_one n h = omega (arith, digits_last n n (omega arith))
 
 -- ---- the last k digits of n before others
 

@@ -2,6 +2,7 @@
 pub mod WalkLaws
 pub mod DigitLaws
 pub mod NameLaws
+pub mod FrontLaws
 pub mod WordLaws
 pub mod StepLaws
 pub mod PathLaws

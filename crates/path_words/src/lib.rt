@@ -7,17 +7,20 @@ mod writing;
 
 pub use writing::write_path;
 
-// The child that a place is within, and where that starts: a list's element by its number, an object's field by its stored id.
+// One step down: to a list's element by its number, to an object's field by its stored id.
 #[derive(Clone, Copy)]
-pub enum Child {
-    Element { number: usize, start: usize },
-    Field { id: usize, start: usize },
-    Nothing,
+pub enum Step {
+    Element(usize),
+    Field(usize),
 }
 
-// How many bytes of words were written; or that they do not fit.
+// The child that a place is within, and where it starts.
 #[derive(Clone, Copy)]
-pub enum PathWords {
-    Written(usize),
-    NoRoom,
+pub struct Child {
+    pub step: Step,
+    pub start: usize,
 }
+
+// That words do not fit.
+#[derive(Clone, Copy, PartialEq, Eq, Debug)]
+pub struct NoRoom;

@@ -2,10 +2,11 @@
 ghost use Rattle.std.specs.Prelude.{◌≡◌, ◌≤◌, ◌<◌, ◌*◌, [], length};
 ghost use Rattle.metadata.specs.Bytes.{dictionary_names};
 ghost use Rattle.live.specs.Words.{decimal, steps_words};
-ghost use Rattle.path_words.specs.Descent.{path_in};
+ghost use Rattle.path_words.specs.Descent.{path_in, step_of};
+ghost use Rattle.path_words.specs.Writing.{step_words};
 
-use crate::Child;
 use crate::descent::child_over;
+use crate::{Child, Step};
 use header_reader::value_from;
 use lexicon::name_at;
 
@@ -17,16 +18,21 @@ pub(crate) fn steps_size(d: &[u8], v: &[u8], p: usize, depth: usize) -> usize
     if depth == 0 {
         return 0;
     }
-    let child = child_over(v, p);
-    match child {
-        Child::Element { number, start } => {
-            10 + decimal_size(number) + steps_size(d, value_from(v, start), p - start, depth - 1)
-        }
-        Child::Field { id, start } => {
+    let Some(Child { step, start }) = child_over(v, p) else {
+        return 0;
+    };
+    step_size(d, step) + steps_size(d, value_from(v, start), p - start, depth - 1)
+}
+
+fn step_size(d: &[u8], step: Step) -> usize
+    ensures { (result ≡ length (step_words (step_of (dictionary_names d.now) step))) × (result ≤ 8589934592) }
+{
+    match step {
+        Step::Element(number) => 10 + decimal_size(number),
+        Step::Field(id) => {
             let n = name_at(d, id).len();
-            15 + decimal_size(n) + n + steps_size(d, value_from(v, start), p - start, depth - 1)
+            15 + decimal_size(n) + n
         }
-        Child::Nothing => 0,
     }
 }
 
@@ -34,11 +40,5 @@ pub(crate) fn steps_size(d: &[u8], v: &[u8], p: usize, depth: usize) -> usize
 pub(crate) fn decimal_size(n: usize) -> usize
     ensures { (result ≡ length (decimal n [])) × (result ≤ 20) }
 {
-    let mut size = 1;
-    let mut left = n;
-    while 9 < left {
-        left = left / 10;
-        size += 1;
-    }
-    size
+    if n == 0 { 1 } else { n.ilog10() as usize + 1 }
 }

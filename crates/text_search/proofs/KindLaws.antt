@@ -1,11 +1,12 @@
 -- A value by its kind: whether it is a wanted text, and what the search in it is.
 use mathlib.Core.Path.{◌≡◌, refl, sym, ◌∙◌, ap}
 use mathlib.Core.Bool.{Bool, true, false, cond, ◌&&◌, true≢false}
-use mathlib.Core.List.{List, ◌∷◌}
+use mathlib.Core.List.{List, [], ◌∷◌}
 use Prim.Native.Nat.{ℕ, zero, suc, ◌+◌, ◌-◌, ◌*◌, ◌%◌, ◌≤◌}
 use native.Mathlib.Omega.{arith}
 use lib.Dec.{eqb}
-use lib.ListN.{length, take, drop, get_or}
+use lib.Pointwise.{pointwise}
+use lib.ListN.{length, take, drop, get_or, drop_of_length-le}
 use borrow.Author.Tests.{eq-eqb, ne_eqb, eqb-true, eqb-false}
 use Rattle.value.specs.Scalar.{Stored, primitive, short, Scalar, first_byte, scalar_bytes}
 use Rattle.metadata.specs.Names.{same}
@@ -17,6 +18,20 @@ use Rattle.live.specs.Live.{text, other, leaf_by, leaf_of}
 use Rattle.live.specs.Ways.{is_wanted}
 use Rattle.text_search.specs.Search.{is_text, elements_in, fields_in, least_in}
 
+-- ---- `==` of bytes is `same`
+
+same_pointwise : (a b : List ℕ) → pointwise eqb a b ≡ same a b
+unfolding same
+same_pointwise [] [] = refl
+same_pointwise [] (y ∷ ys) = refl
+same_pointwise (x ∷ xs) [] = refl
+same_pointwise (x ∷ xs) (y ∷ ys) = ap (λ t. eqb x y && t) (same_pointwise xs ys)
+
+same_none : (b : List ℕ) → eqb (length b) 0 ≡ same [] b
+unfolding same
+same_none [] = refl
+same_none (y ∷ ys) = ne_eqb (length (y ∷ ys)) 0 (λ e. absurd (omega arith))
+
 module _ (wanted v : List ℕ) where
   abbrev kind : ℕ
   kind = get_or v 0 0 % 4
@@ -24,15 +39,19 @@ module _ (wanted v : List ℕ) where
   -- ---- whether it is the text
 
   -- behind the first byte, as the code cuts it
-  pub text_short : {bytes : List ℕ} {t : Bool} → kind ≡ 1 → bytes ≡ take (length v - 1) (drop 1 v) → t ≡ same bytes wanted → t ≡ is_text wanted v
+  pub text_short : {t : Bool} → kind ≡ 1 → t ≡ pointwise eqb (take (length v - 1) (drop 1 v)) wanted → t ≡ is_text wanted v
   unfolding is_text
-  text_short k e s = s ∙ (rw (eq-eqb kind 1 k, e, rest_is v 1))
+  text_short k s = s ∙ (rw (eq-eqb kind 1 k, rest_is v 1) (same_pointwise (drop 1 v) wanted))
 
   -- behind the length
-  pub text_long : {bytes : List ℕ} {t : Bool} → (kind ≡ 1 → ⊥) → get_or v 0 0 ≡ 64 → bytes ≡ take (length v - 5) (drop 5 v) → t ≡ same bytes wanted
-      → t ≡ is_text wanted v
+  pub text_long : {t : Bool} → (kind ≡ 1 → ⊥) → get_or v 0 0 ≡ 64 → t ≡ pointwise eqb (take (length v - 5) (drop 5 v)) wanted → t ≡ is_text wanted v
   unfolding is_text
-  text_long k f e s = s ∙ (rw (ne_eqb kind 1 k, eq-eqb (get_or v 0 0) 64 f, e, rest_is v 5))
+  text_long k f s = s ∙ (rw (ne_eqb kind 1 k, eq-eqb (get_or v 0 0) 64 f, rest_is v 5) (same_pointwise (drop 5 v) wanted))
+
+  -- no bytes behind a length that is cut off
+  pub text_cut : {t : Bool} → (kind ≡ 1 → ⊥) → get_or v 0 0 ≡ 64 → length v ≤ 5 → t ≡ eqb (length wanted) 0 → t ≡ is_text wanted v
+  unfolding is_text
+  text_cut k f l s = s ∙ (rw (ne_eqb kind 1 k, eq-eqb (get_or v 0 0) 64 f, drop_of_length-le v {i = 5} l) (same_none wanted))
 
   pub text_other : (kind ≡ 1 → ⊥) → (get_or v 0 0 ≡ 64 → ⊥) → false ≡ is_text wanted v
   unfolding is_text

@@ -1,10 +1,11 @@
 -- For the code: the least place of a wanted text (`least_of` of live), found in bytes that are not looked at otherwise. Places are counted from where a
 -- value starts. proofs/SearchLaws says that over a reading this is `least_of`.
-use Rattle.std.specs.Prelude.{Bool, cond, ◌&&◌, List, [], ◌∷◌, ℕ, zero, suc, ◌+◌, ◌-◌, ◌*◌, ◌%◌, eqb, ltb, drop, get_or, length}
+use Rattle.std.specs.Prelude.{Option, Some, None, Bool, cond, ◌&&◌, List, [], ◌∷◌, ℕ, zero, suc, ◌+◌, ◌-◌, ◌*◌, ◌%◌, eqb, ltb, drop, get_or, length}
 use Rattle.value.specs.declared.decoder.VariantPrimitiveType.TheVariants as type
 use Rattle.value.specs.Decoder.{code}
 use Rattle.metadata.specs.Names.{same}
 use Rattle.measure.specs.Measure.{measured}
+use Rattle.grammar.specs.Grammar.{most_containers}
 use Rattle.grammar.specs.Tests.{list_from, object_from, object_offsets}
 use Rattle.header_reader.specs.Heads.{value_from}
 
@@ -33,3 +34,7 @@ least_in zero wanted best v = cond (is_text wanted v) 0 best
 least_in (suc d) wanted best v =
     cond (eqb (get_or v 0 0 % 4) 3) (elements_in (least_in d wanted) (length v) v (list_from v) best)
     (cond (eqb (get_or v 0 0 % 4) 2) (fields_in (least_in d wanted) v best (object_offsets v)) (cond (is_text wanted v) 0 best))
+
+-- in a whole value: the place, where there is one
+abbrev pub place_in : List ℕ → List ℕ → Option ℕ
+place_in wanted v = let n = least_in most_containers wanted (length v) v in cond (ltb n (length v)) (Some n) None

@@ -1,19 +1,20 @@
 // The search: a value by its kind, and a list's elements and an object's fields, which are values again.
-ghost use Rattle.std.specs.Prelude.{◌≡◌, ◌%◌, ◌≤◌, get_or, length};
-ghost use Rattle.grammar.specs.Grammar.{most_containers};
-ghost use Rattle.text_search.specs.Search.{least_in};
+ghost use Rattle.std.specs.Prelude.{◌≡◌, ◌%◌, ◌≤◌, get_or};
+ghost use Rattle.text_search.specs.Search.{least_in, place_in};
 
 use crate::texts::is_text;
 use header_reader::{count_of_fields, list_from, object_from, stored_offset, value_from};
 
-// Where the first text equal to `wanted` starts, of those that are live; the value's length where there is none.
-pub fn least_place(v: &[u8], wanted: &[u8]) -> usize
-    ensures { result ≡ least_in most_containers wanted.now (length v.now) v.now }
+// Where the first text equal to `wanted` starts, of those that are live.
+pub fn least_place(v: &[u8], wanted: &[u8]) -> Option<usize>
+    ensures { result ≡ place_in wanted.now v.now }
 {
-    least_value(v, wanted, v.len(), 64)
+    let place = least_value(v, wanted, v.len(), 64);
+    (place < v.len()).then_some(place)
 }
 
-// The same of places below `best`, through at most `depth` containers; `best` where there is none.
+// The same of places below `best`, through at most `depth` containers; `best` where there is none: it is a bound that each value found moves down, and
+// as an Option it would be unpacked at each of them.
 #[cycle(least_element_least_field_least_value)]
 fn least_value(v: &[u8], wanted: &[u8], best: usize, depth: usize) -> usize
     ensures { (result ≡ least_in depth wanted.now best v.now) × (result ≤ best) }
@@ -21,10 +22,7 @@ fn least_value(v: &[u8], wanted: &[u8], best: usize, depth: usize) -> usize
     if is_text(v, wanted) {
         return 0;
     }
-    if v.len() == 0 {
-        return best;
-    }
-    match v[0] % 4 {
+    match v.first().copied().unwrap_or(0) % 4 {
         3 => least_element(v, wanted, best, depth),
         2 => least_field(v, wanted, best, depth),
         _ => best,
@@ -44,7 +42,7 @@ fn least_element(v: &[u8], wanted: &[u8], best: usize, depth: usize) -> usize
     let mut n = list_from(v);
     while n < least {
         let element = value_from(v, n);
-        if element.len() == 0 {
+        if element.is_empty() {
             break;
         }
         least = n + least_value(element, wanted, least - n, depth - 1);
@@ -63,15 +61,12 @@ fn least_field(v: &[u8], wanted: &[u8], best: usize, depth: usize) -> usize
         return best;
     }
     let from = object_from(v);
-    let count = count_of_fields(v);
     let mut least = best;
-    let mut k = 0;
-    while k < count {
+    for k in 0..count_of_fields(v) {
         let n = from + stored_offset(v, k);
         if n < least {
             least = n + least_value(value_from(v, n), wanted, least - n, depth - 1);
         }
-        k += 1;
     }
     least
 }

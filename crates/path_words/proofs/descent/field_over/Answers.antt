@@ -6,11 +6,11 @@ use lib.ListN.{length, get_or}
 use Rattle.grammar.specs.Tests.{object_count, object_from, object_offsets}
 use Rattle.path_words.proofs.WalkLaws.{fields_start, fields_none, fields_before, fields_found, fields_behind, value_end_lem}
 use Rattle.path_words.proofs.descent.field_over.Goals as goal
-use Rattle.path_words.proofs.descent.field_over.Goals.{then-start-p+else-p-start, else-start-p, After-stored_offset, After-value_from, In-loop-k}
+use Rattle.path_words.proofs.descent.field_over.Goals.{else-start-p-via-then-start-p+else-p-start, else-start-p-via-else-start-p, After-stored_offset, After-value_from, In-loop-k}
 
 -- field k is there
 there : (c : In-loop-k) → c.loop-k.k < object_count c.args.v.now
-there c = omega (arith, c.count_of_fields-count.ensures.0)
+there c = omega (arith, c.count_of_fields-k-end.ensures.0)
 
 -- where its value starts
 start : (c : After-stored_offset) → let v = c.args.v.now in
@@ -30,13 +30,13 @@ returns-then-p-start c =
 
 pub loop-k-preserved : goal.loop-k-preserved
 loop-k-preserved c =
-    elim c.if-start-p.branch [
-      | then-start-p+else-p-start x ↦ fields_behind c.loop-k.invariant (there (goal.at.loop-k-preserved c).In-loop-k) (start (goal.at.loop-k-preserved c).After-stored_offset) (ap length x.value_from.ensures) x.if-p-start.false
-      | else-start-p x ↦ fields_before c.loop-k.invariant (there (goal.at.loop-k-preserved c).In-loop-k) (start (goal.at.loop-k-preserved c).After-stored_offset) x.if-start-p.false
+    elim c.else-start-p.branch [
+      | else-start-p-via-then-start-p+else-p-start x ↦ fields_behind c.loop-k.invariant (there (goal.at.loop-k-preserved c).In-loop-k) (start (goal.at.loop-k-preserved c).After-stored_offset) (ap length x.value_from.ensures) x.if-p-start.false
+      | else-start-p-via-else-start-p x ↦ fields_before c.loop-k.invariant (there (goal.at.loop-k-preserved c).In-loop-k) (start (goal.at.loop-k-preserved c).After-stored_offset) x.if-start-p.false
     ]
 
 pub returns : goal.returns
-returns c = fields_none c.loop-k.invariant (omega (arith, c.count_of_fields-count.ensures.0))
+returns c = fields_none c.loop-k.invariant (rw (← c.count_of_fields-k-end.ensures.0) c.loop-k-test.false)
 
 pub loop-k-init : goal.loop-k-init
 loop-k-init c = fields_start _ _

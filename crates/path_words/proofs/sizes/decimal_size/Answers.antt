@@ -1,16 +1,10 @@
--- The digits of what is left are still to be counted.
+-- By the power of ten that n reaches.
 use native.Mathlib.Omega.{arith}
-use Rattle.path_words.proofs.DigitLaws.{sizes_start, sizes_again, sizes_end, sizes_room}
+use Rattle.path_words.proofs.DigitLaws.{size_one, size_power}
 use Rattle.path_words.proofs.sizes.decimal_size.Goals as goal
 
-pub loop-left-init : goal.loop-left-init
-loop-left-init c = sizes_start _ (omega arith)
+pub returns-then-n-eq0 : goal.returns-then-n-eq0
+returns-then-n-eq0 c = (size_one _ c.if-n-eq0.true, omega arith)
 
-pub overflow_add-size : goal.overflow_add-size
-overflow_add-size c = omega (arith, sizes_room c.loop-left.invariant)
-
-pub loop-left-preserved : goal.loop-left-preserved
-loop-left-preserved c = sizes_again c.loop-left.invariant c.loop-left-test.true
-
-pub returns : goal.returns
-returns c = sizes_end c.loop-left.invariant c.loop-left-test.false
+pub returns-else-n-eq0 : goal.returns-else-n-eq0
+returns-else-n-eq0 c = let r = c.ilog10.ensures in (size_power _ _ r.power_le r.next_power_gt, omega (arith, r.bound))

@@ -5,8 +5,5 @@ use Rattle.live.specs.Words.{decimal}
 use Rattle.path_words.proofs.DigitLaws.{Digits}
 use Rattle.path_words.proofs.writing.write_decimal.Given as goal
 
-abbrev pub invariant-loop-p : goal.invariant-loop-p
-invariant-loop-p l = Digits (write l.at (decimal l.n []) l.initial.out) l.at (length l.initial.out) l.out l.p l.left
-
-abbrev pub decreases-loop-p : goal.decreases-loop-p
-decreases-loop-p l = l.p
+abbrev pub invariant-loop-i : goal.invariant-loop-i
+invariant-loop-i l = Digits (write 0 (decimal l.n []) l.initial.out) 0 (length l.initial.out) l.out l.i l.left

@@ -1,6 +1,9 @@
 -- A value by its kind; a list's elements, and an object's fields, one after another.
+use mathlib.Core.Path.{◌≡◌, sym, ◌∙◌}
+use borrow.Author.Tests.{eqb-true, eqb-false}
+use Rattle.std.proofs.Common.{rules, get_or}
 use native.Mathlib.Omega.{arith}
-use Rattle.text_search.proofs.KindLaws.{least_text, least_none, least_other, least_deep, least_list, least_object}
+use Rattle.text_search.proofs.KindLaws.{least_text, least_other, least_deep, least_list, least_object}
 use Rattle.text_search.proofs.WalkLaws.{elements_start, elements_again, elements_cut, elements_end}
 use Rattle.text_search.proofs.WalkLaws.{fields_start, fields_skip, fields_again, fields_end}
 use Rattle.text_search.proofs.search.+least_element_least_field_least_value.Goals as goal
@@ -14,13 +17,14 @@ least_element-loop-n-init t c = elements_start c.list_from-n.ensures (least_list
 
 pub least_element-loop-n-preserved : goal.least_element-loop-n-preserved
 least_element-loop-n-preserved t c =
-    elements_again c.loop-n.invariant c.value_from-element.ensures c.loop-n-test.true c.if-element-eq0.false c.least_value.ensures
+    elements_again c.loop-n.invariant c.value_from-element.ensures c.loop-n-test.true
+    (eqb-false _ _ (sym c.is_empty.ensures ∙ c.if-is_empty.false)) c.least_value.ensures
 
 pub least_element-returns-after-loop-n : goal.least_element-returns-after-loop-n
 least_element-returns-after-loop-n t c = elements_end c.loop-n.invariant c.loop-n-test.false
 
-pub least_element-returns-then-element-eq0 : goal.least_element-returns-then-element-eq0
-least_element-returns-then-element-eq0 t c = elements_cut c.loop-n.invariant c.value_from-element.ensures c.if-element-eq0.true
+pub least_element-returns-then-is_empty : goal.least_element-returns-then-is_empty
+least_element-returns-then-is_empty t c = elements_cut c.loop-n.invariant c.value_from-element.ensures (eqb-true _ _ (sym c.is_empty.ensures ∙ c.if-is_empty.true))
 
 pub least_field-returns-then-depth-eq0 : goal.least_field-returns-then-depth-eq0
 least_field-returns-then-depth-eq0 t c = least_deep _ _ _ _ (omega (arith, c.requires)) c.if-depth-eq0.true
@@ -30,7 +34,6 @@ least_field-loop-k-init t c = fields_start (least_object _ _ _ _ c.if-depth-eq0.
 
 pub least_field-loop-k-preserved : goal.least_field-loop-k-preserved
 least_field-loop-k-preserved t c =
-    let n = c.count_of_fields-count.ensures.0 in
     let from = c.object_from-from.ensures.0 in
     let offset = c.stored_offset.ensures.0 in
     elim c.if-n-least.branch [
@@ -39,15 +42,12 @@ least_field-loop-k-preserved t c =
     ]
 
 pub least_field-returns : goal.least_field-returns
-least_field-returns t c = fields_end c.loop-k.invariant (omega (arith, c.loop-k-test.false, c.count_of_fields-count.ensures.0))
+least_field-returns t c = fields_end c.loop-k.invariant (rw (← c.count_of_fields-k-end.ensures.0) c.loop-k-test.false)
 
 pub least_value-returns-then-is_text : goal.least_value-returns-then-is_text
 least_value-returns-then-is_text t c = least_text _ _ _ _ c.is_text.ensures c.if-is_text.true
 
-pub least_value-returns-then-v-eq0 : goal.least_value-returns-then-v-eq0
-least_value-returns-then-v-eq0 t c = least_none _ _ _ _ c.is_text.ensures c.if-is_text.false c.if-v-eq0.true
-
 pub least_value-returns-in_default : goal.least_value-returns-in_default
 least_value-returns-in_default t c =
-    let m = c.in_default.in_default-own.rest in
-    least_other _ _ _ _ c.is_text.ensures c.if-is_text.false m.0.1 m.1
+    let f : c.unwrap_or.result ≡ get_or c.args.v.now 0 0 = search rules in
+    least_other _ _ _ _ c.is_text.ensures c.if-is_text.false (rw (← f) (search rules)) (rw (← f) (search rules))

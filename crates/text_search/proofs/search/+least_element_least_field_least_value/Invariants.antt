@@ -21,6 +21,3 @@ decreases-least_element-loop-n l = length l.v - l.n
 
 abbrev pub invariant-least_field-loop-k : goal.invariant-least_field-loop-k
 invariant-least_field-loop-k l = FieldsLeft (least_in (l.depth - 1) l.wanted) (least_in l.depth l.wanted l.best l.v) l.v l.best l.k l.least
-
-abbrev pub decreases-least_field-loop-k : goal.decreases-least_field-loop-k
-decreases-least_field-loop-k l = l.count - l.k

@@ -1,15 +1,23 @@
 -- A text by its first byte.
-use Rattle.text_search.proofs.KindLaws.{text_none, text_short, text_long, text_other}
+use Rattle.std.proofs.Common.{rules}
+use native.Mathlib.Omega.{arith}
+use Rattle.text_search.proofs.KindLaws.{text_none, text_short, text_long, text_cut, text_other}
 use Rattle.text_search.proofs.texts.is_text.Goals as goal
 
-pub returns-then-v-eq0 : goal.returns-then-v-eq0
-returns-then-v-eq0 c = text_none _ _ c.if-v-eq0.true
+pub returns-in-len1-up : goal.returns-in-len1-up
+returns-in-len1-up c = text_short _ _ c.if-first-eq1.true c.eq.ensures
 
-pub returns-then-v-eq1 : goal.returns-then-v-eq1
-returns-then-v-eq1 c = text_short _ _ c.if-v-eq1.true c.part.ensures c.same.ensures
+pub returns-in-64 : goal.returns-in-64
+returns-in-64 c = text_long _ _ c.if-first-eq1.false (search rules) c.eq-in-64.ensures
 
-pub returns-then-v-eq64 : goal.returns-then-v-eq64
-returns-then-v-eq64 c = text_long _ _ c.if-v-eq1.false c.if-v-eq64.true c.part-then-v-eq64.ensures c.same-then-v-eq64.ensures
+pub returns-in-64-2 : goal.returns-in-64-2
+returns-in-64-2 c = text_cut _ _ c.if-first-eq1.false (search rules) (omega arith) c.is_empty.ensures
 
-pub returns : goal.returns
-returns c = text_other _ _ c.if-v-eq1.false c.if-v-eq64.false
+pub returns-in_default : goal.returns-in_default
+returns-in_default c = text_none _ _ (omega arith)
+
+pub returns-in_default-3 : goal.returns-in_default-3
+returns-in_default-3 c = text_other _ _ c.if-first-eq1.false (omega arith)
+
+pub returns-in_default-4 : goal.returns-in_default-4
+returns-in_default-4 c = text_other _ _ c.if-first-eq1.false (search rules)

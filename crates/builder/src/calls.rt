@@ -9,7 +9,7 @@ ghost use Rattle.semantics.specs.Step.{step};
 ghost use Rattle.refusals.specs.Decide.{name_of};
 ghost use Rattle.builder.specs.Calls.{Does, Finishes, finish_answer, state};
 
-use crate::view::{answer_of, called, called_with, view_of, with_elements};
+use crate::view::{answer_of, called, called_with, with_elements};
 use crate::{Called, FinishAnswer, FinishCalled};
 use actions::{
     append_bytes_over, append_civil_over, append_packed_over, append_uuid_over, append_value_over,
@@ -18,7 +18,7 @@ use actions::{
 };
 use calendar::civil::Civil;
 use marks::{NUMBERS, mark_at, put_mark};
-use refusals::saturating_sub;
+use records::view_of;
 use semantics::Builder;
 use value::variant::{Variant, VariantBytes};
 
@@ -38,7 +38,7 @@ pub fn add_field_name(
         (step (state b marks.now (storage_of value.now text.old ends.old entries.now undo.now))
         (register_of name.now)) }
 {
-    let v = view_of(b, marks);
+    let v = view_of(&b, marks);
     let r = register(v, value, text, ends, entries, undo, name);
     called(b, r)
 }
@@ -61,7 +61,7 @@ pub fn append_value(
         (step (state b marks.now (storage_of value.old text.old ends.old entries.old undo.old))
         (append_of (name_of named name.now) (fixed x))) }
 {
-    let v = view_of(b, marks);
+    let v = view_of(&b, marks);
     let r = append_value_over(v, value, text, ends, entries, undo, named, name, x);
     called(b, r)
 }
@@ -84,7 +84,7 @@ pub fn append_civil(
         (step (state b marks.now (storage_of value.old text.old ends.old entries.old undo.old))
         (append_of (name_of named name.now) (civil x))) }
 {
-    let v = view_of(b, marks);
+    let v = view_of(&b, marks);
     let r = append_civil_over(v, value, text, ends, entries, undo, named, name, x);
     called(b, r)
 }
@@ -108,7 +108,7 @@ pub fn append_packed(
         (step (state b marks.now (storage_of value.old text.old ends.old entries.old undo.old))
         (append_of (name_of named name.now) (packed scale bytes.now))) }
 {
-    let v = view_of(b, marks);
+    let v = view_of(&b, marks);
     let r = append_packed_over(
         v, value, text, ends, entries, undo, named, name, scale, bytes,
     );
@@ -134,7 +134,7 @@ pub fn append_bytes(
         (step (state b marks.now (storage_of value.old text.old ends.old entries.old undo.old))
         (append_of (name_of named name.now) (bytes_of kind bytes.now))) }
 {
-    let v = view_of(b, marks);
+    let v = view_of(&b, marks);
     let r = append_bytes_over(
         v, value, text, ends, entries, undo, named, name, kind, bytes,
     );
@@ -158,7 +158,7 @@ pub fn append_uuid(
         (step (state b marks.now (storage_of value.old text.old ends.old entries.old undo.old))
         (append_of (name_of named name.now) (uuid_of uuid))) }
 {
-    let v = view_of(b, marks);
+    let v = view_of(&b, marks);
     let r = append_uuid_over(v, value, text, ends, entries, undo, named, name, uuid);
     called(b, r)
 }
@@ -222,7 +222,7 @@ fn new_container(
         (step (state b marks.now (storage_of value.now text.old ends.old entries.old undo.old))
         (open_in (name_of named name.now) object)) }
 {
-    let v = view_of(b, marks);
+    let v = view_of(&b, marks);
     let r = open_over(v, value, text, ends, entries, undo, named, name, object);
     let n = r.number;
     if n != 0 {
@@ -254,7 +254,7 @@ pub fn close(
         (step (state b marks.now (storage_of value.old text.now ends.now entries.old undo.now))
         close_of) }
 {
-    let v = view_of(b, marks);
+    let v = view_of(&b, marks);
     let r = close_over(v, value, text, ends, entries, undo);
     called(b, r)
 }
@@ -273,7 +273,7 @@ pub fn rollback(
         (step (state b marks.now (storage_of value.now text.now ends.now entries.old undo.now))
         roll_back) }
 {
-    let v = view_of(b, marks);
+    let v = view_of(&b, marks);
     let r = rollback_over(v, value, text, ends, entries, undo);
     called(b, r)
 }
@@ -294,7 +294,7 @@ pub fn with_validate_unique_fields(
         (step (state b marks.now (storage_of value.now text.now ends.now entries.now undo.now))
         (uniqueness unique)) }
 {
-    let v = view_of(b, marks);
+    let v = view_of(&b, marks);
     let r = unique_over(v, value, text, ends, entries, undo, unique);
     let n = r.number;
     if n != 0 {
@@ -324,7 +324,7 @@ pub fn mark(
         (step (state b marks.old (storage_of value.now text.now ends.now entries.now undo.now))
         set_mark) }
 {
-    let v = view_of(b, marks);
+    let v = view_of(&b, marks);
     let r = mark_over(v, value, text, ends, entries, undo);
     let n = r.number;
     if n != 0 {
@@ -358,9 +358,9 @@ pub fn return_to(
         (step (state b marks.now (storage_of value.now text.now ends.now entries.old undo.now))
         (return_to mark)) }
 {
-    let v = view_of(b, marks);
+    let v = view_of(&b, marks);
     let d = b.counts.depth;
-    let at = saturating_sub(d, 1);
+    let at = d.saturating_sub(1);
     let p = mark_at(marks, at, mark);
     let r = return_over(v, value, text, ends, entries, undo, mark, p);
     let n = r.number;
@@ -394,7 +394,7 @@ pub fn finish(
         (step (state b marks.now (storage_of value.now text.now ends.now entries.now undo.now))
         (finish_of out.old)) }
 {
-    let v = view_of(b, marks);
+    let v = view_of(&b, marks);
     let r = finish_over(v, value, text, ends, entries, undo, out);
     let cs = b.containers;
     let ns = b.elements;

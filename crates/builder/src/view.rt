@@ -1,16 +1,12 @@
-// The record, and what a call sees of it and of the table of marks.
-ghost use Rattle.std.specs.Prelude.{◌≡◌, ◌&&◌, ◌≤◌, ◌<◌, set};
-ghost use Rattle.semantics.specs.Record.{chained, inner_elements, innermost, mark_now, marks_fit, marks_hold, parent_elements, parent_of, view_of};
-ghost use Rattle.semantics.specs.Record.{encloses as encloses_of, under as under_of};
+// The record made, and what a call gives back of it.
+ghost use Rattle.std.specs.Prelude.{◌≡◌, ◌<◌, set};
 ghost use Rattle.actions.specs.Actions.{elements_put};
 ghost use Rattle.builder.specs.Calls.{Makes, answer_of, fresh_of};
 
 use crate::{Answer, Called};
 use actions::Moved;
-use marks::{NUMBERS, marks_fit};
-use metadata::{metadata_size, num_field_names};
-use refusals::{make_number, saturating_sub};
-use semantics::{Builder, Container, Counts, Mark, View, fresh_counts, no_container};
+use refusals::make_number;
+use semantics::{Builder, Container, Counts, fresh_counts, no_container};
 
 // A fresh builder of floor 1, under which every width is the least; children inherit the uniqueness mark.
 pub fn new(unique: bool) -> Builder
@@ -35,175 +31,11 @@ pub fn with_floor(unique: bool, floor: usize) -> Called
 fn fresh(unique: bool, floor: usize) -> Builder
     ensures { result ≡ fresh_of unique floor }
 {
-    let e = no_container();
-    let cs = [e; 64];
-    let ns = [0; 64];
-    let c = fresh_counts(unique, floor);
     Builder {
-        containers: cs,
-        elements: ns,
-        counts: c,
+        containers: [no_container(); 64],
+        elements: [0; 64],
+        counts: fresh_counts(unique, floor),
     }
-}
-
-pub(crate) fn view_of(b: Builder, marks: &[usize; NUMBERS]) -> View
-    ensures { result ≡ view_of b marks.now }
-{
-    let c = b.counts;
-    let k = inner_of(b);
-    let p = parent_of(b);
-    View {
-        counts: c,
-        inner: k,
-        elements: elements_of(b),
-        parent: p,
-        siblings: siblings_of(b),
-        chain: holds(b, marks),
-    }
-}
-
-fn inner_of(b: Builder) -> Container
-    ensures { result ≡ innermost b.containers b.counts.depth }
-{
-    let d = b.counts.depth;
-    if d == 0 {
-        return no_container();
-    }
-    if 64 < d {
-        return no_container();
-    }
-    b.containers[d - 1]
-}
-
-fn parent_of(b: Builder) -> Container
-    ensures { result ≡ parent_of b.containers b.counts.depth }
-{
-    let d = b.counts.depth;
-    if d < 2 {
-        return no_container();
-    }
-    if 65 < d {
-        return no_container();
-    }
-    b.containers[d - 2]
-}
-
-// The innermost's elements.
-fn elements_of(b: Builder) -> usize
-    ensures { result ≡ inner_elements b.elements b.counts.depth }
-{
-    let d = b.counts.depth;
-    if d == 0 {
-        return 0;
-    }
-    if 64 < d {
-        return 0;
-    }
-    b.elements[d - 1]
-}
-
-// The parent's.
-fn siblings_of(b: Builder) -> usize
-    ensures { result ≡ parent_elements b.elements b.counts.depth }
-{
-    let d = b.counts.depth;
-    if d < 2 {
-        return 0;
-    }
-    if 65 < d {
-        return 0;
-    }
-    b.elements[d - 2]
-}
-
-// Does the chain of open containers hold, and do the marks that are set in them?
-fn holds(b: Builder, marks: &[usize; NUMBERS]) -> bool
-    ensures { result ≡ (chained b.containers b.elements b.counts.depth
-        && marks_hold b.containers b.elements marks.now b.counts b.counts.depth) }
-{
-    if !chain_of(b) {
-        return false;
-    }
-    marks_hold(b, marks)
-}
-
-// Are at most 64 open, does no starting mark fall from one to the next, and does no list with a child open in it count too much?
-fn chain_of(b: Builder) -> bool
-    ensures { result ≡ chained b.containers b.elements b.counts.depth }
-{
-    let d = b.counts.depth;
-    if 64 < d {
-        return false;
-    }
-    if d == 0 {
-        return true;
-    }
-    let cs = b.containers;
-    let ns = b.elements;
-    let mut ok = true;
-    let mut i = d - 1;
-    while 0 < i {
-        let l = cs[i];
-        i -= 1;
-        let k = cs[i];
-        ok = ok & encloses(k, ns[i], l);
-    }
-    ok
-}
-
-// Are the marks that are set in each open container at most 16, and in order?
-fn marks_hold(b: Builder, marks: &[usize; NUMBERS]) -> bool
-    requires { b.counts.depth ≤ 64 }
-    ensures { result ≡ marks_hold b.containers b.elements marks.now b.counts b.counts.depth }
-{
-    let cs = b.containers;
-    let ns = b.elements;
-    let c = b.counts;
-    let mut ok = true;
-    let mut i = c.depth;
-    while 0 < i {
-        i -= 1;
-        let k = cs[i];
-        ok = ok & fits_at(marks, i, k, ns[i], c);
-    }
-    ok
-}
-
-// Are those of the container at depth d, which has n elements? Most containers have none.
-fn fits_at(marks: &[usize; NUMBERS], d: usize, k: Container, n: usize, c: Counts) -> bool
-    ensures { result ≡ marks_fit marks.now d k (mark_now c n k.unique) }
-{
-    if k.marks == 0 {
-        return true;
-    }
-    let m = c.dictionary;
-    let names = num_field_names(m);
-    let text = metadata_size(m);
-    let present = Mark {
-        value: c.value,
-        names: names,
-        text: text,
-        entries: c.entries,
-        undo: c.undo,
-        count: n,
-        unique: k.unique,
-    };
-    marks_fit(marks, d, k, present)
-}
-
-// The step from a container of n elements to the one open in it; one above the data's bytes is that child.
-fn encloses(k: Container, n: usize, l: Container) -> bool
-    ensures { result ≡ encloses_of k n l }
-{
-    let above = saturating_sub(n, saturating_sub(l.value, k.value));
-    under(k, l) & (k.object | (above <= 1))
-}
-
-fn under(k: Container, l: Container) -> bool
-    ensures { result ≡ under_of k l }
-{
-    let entries = (k.entries <= l.entries) & (k.undo <= l.undo);
-    (k.value <= l.value) & ((k.names <= l.names) & ((k.text <= l.text) & entries))
 }
 
 pub(crate) fn answer_of(n: u8) -> Answer
@@ -244,14 +76,12 @@ pub(crate) fn called(b: Builder, r: Moved) -> Called
 pub(crate) fn with_elements(ns: [usize; 64], d: usize, n: usize) -> [usize; 64]
     ensures { result ≡ elements_put ns d n }
 {
-    if d == 0 {
-        return ns;
-    }
-    if 64 < d {
-        return ns;
-    }
     let mut after = ns;
-    after[d - 1] = n;
+    if let Some(i) = d.checked_sub(1)
+        && i < 64
+    {
+        after[i] = n;
+    }
     after
 }
 

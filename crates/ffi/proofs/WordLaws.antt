@@ -8,6 +8,7 @@ use lib.Dec.{eqb, leb}
 use lib.ListN.{length, length-set, get_or, set}
 use lib.Seq.{get_or-set_other, get_or-set_same}
 use borrow.Author.Tests.{lt-ltb, le-ltb, le-leb}
+use mir.Val.{bool_byte}
 use Rattle.semantics.specs.declared.Builder.{Builder}
 use Rattle.semantics.specs.declared.Container.{Container}
 use Rattle.semantics.specs.declared.Counts.{Counts}
@@ -97,6 +98,11 @@ put_at ws p n (x ∷ xs) (suc i) t h l e = put_at (set ws (p + n) x) p (suc n) x
 pub flag_word : (b : Bool) → flag (word_of b) ≡ b
 flag_word true = refl
 flag_word false = refl
+
+-- which is its byte
+pub flag_byte : (b : Bool) → bool_byte b ≡ word_of b
+flag_byte true = refl
+flag_byte false = refl
 
 -- the counts are nine words
 counts_from : (ws us : List ℕ) → ((i : ℕ) → i < 9 → word_at us i ≡ word_at ws i) → counts_of us ≡ counts_of ws
@@ -199,42 +205,3 @@ puts_inner {ws} {ms} {us} {c} {d} {n} p q =
     let e = ap (λ (b : Builder). b.elements) p.builder in
     let o = ap (λ (b : Builder). b.counts) p.builder in
     record { words = q.words ∙ rw p.words refl; builder = q.builder ∙ rw (k, e, o) refl }
-
--- ---- the chain
-
--- that at most 64 are open is asked twice
-pub chain_marks : (ks : List Container) (ns : List ℕ) (d : ℕ) (t : Bool) → (chained ks ns d && (leb d 64 && t)) ≡ (chained ks ns d && t)
-unfolding chained
-chain_marks ks ns d t = go (leb d 64) (rising ks ns (d - 1))
-  where
-    go : (a b : Bool) → ((a && b) && (a && t)) ≡ ((a && b) && t)
-    go true b = refl
-    go false b = refl
-
--- ---- no marks
-
--- none is set in the first d containers from depth i on: what is left decides
-pub record Unmarked (ks : List Container) (ns : List ℕ) (c : Counts) (d : ℕ) (none : Bool) (i : ℕ) : Type 0 where
-  pub rest : none ≡ true → (ms : List ℕ) → marks_hold ks ns ms c i ≡ true → marks_hold ks ns ms c d ≡ true
-  pub low : i ≤ 64
-
-pub unmarked_again : {ks : List Container} {ns : List ℕ} {c : Counts} {d : ℕ} {none : Bool} {i m : ℕ} → Unmarked ks ns c d none i → 0 < i
-    → m ≡ (container_at ks (i - 1)).marks → Unmarked ks ns c d (none && eqb m 0) (i - 1)
-unfolding marks_hold
-unmarked_again {ks} {ns} {c} {d} {none} {i} {m} u h e = go i u h e
-  where
-    go : (i : ℕ) → Unmarked ks ns c d none i → 0 < i → m ≡ (container_at ks (i - 1)).marks → Unmarked ks ns c d (none && eqb m 0) (i - 1)
-    go zero u h e = absurd (omega arith)
-    go (suc i) u h e =
-        let l = u.low in
-        let p : suc i - 1 ≡ i = omega arith in
-        rw p
-        (record {
-          rest = λ t ms r. let b = both none (eqb m 0) t in u.rest b.0 ms (rw (rw (e, p) at b.1, r));
-          low = omega arith;
-        })
-
-pub unmarked_end : {ks : List Container} {ns : List ℕ} {c : Counts} {d : ℕ} {none : Bool} {i : ℕ} → Unmarked ks ns c d none i → i ≡ 0 → d ≤ 64
-    → none ≡ true → (ms : List ℕ) → (leb d 64 && marks_hold ks ns ms c d) ≡ true
-unfolding marks_hold
-unmarked_end {ks} {ns} {c} {d} u z h t ms = rw (le-leb d 64 h) (rw z at (u.rest t ms) refl)

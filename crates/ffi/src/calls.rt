@@ -18,7 +18,7 @@
 // The word calls. That the slices are valid and do not overlap is the caller's, and outside the proof.
 // The names are derived from the methods of `VariantBuilder`, `ListBuilder` and `ObjectBuilder` of parquet-variant 60.1.0 (see NOTICE).
 // Changed: written in Rattle, over state words.
-ghost use Rattle.std.specs.Prelude.{◌≡◌, false, true, length};
+ghost use Rattle.std.specs.Prelude.{◌≡◌, false, true};
 ghost use Rattle.semantics.specs.Record.{Scalars, append as append_of, close as close_of, fixed, open_in, packed, register as register_of, return_to, roll_back, set_mark, storage_of, uniqueness, uuid as uuid_of};
 ghost use Rattle.refusals.specs.Decide.{name_of};
 ghost use Rattle.actions.specs.Actions.{StoredAs};
@@ -29,17 +29,15 @@ ghost use Rattle.ffi.specs.Words.{DoesWords, EntersWords, FinishesWords, MakesWo
 use crate::WORDS;
 use crate::dates::civil_by;
 use crate::scalars::{kind_of, variant_of};
-use crate::words::{
-    chain_of, counts_of, elements_of, inner_of, marks_hold, moved, parent_of, put_container,
-    put_counts, put_elements, siblings_of, view_of,
-};
+use crate::words::{Words, moved, put_container, put_counts, put_elements, view_of};
 use actions::{
     Entered, child, close_over, enter_over, finish_over, mark_over, note, packed_own, return_over,
     rollback_over, unique_over,
 };
 use marks::{NUMBERS, mark_at, put_mark};
-use refusals::{make_number, row, saturating_sub};
-use semantics::{View, fresh_counts};
+use records::Record;
+use refusals::{make_number, row};
+use semantics::fresh_counts;
 use value::scalar::{bytes_size, variant_size, write_bytes, write_uuid, write_variant};
 use value::variant::{Variant, ill_formed, out_of_range};
 
@@ -229,7 +227,7 @@ fn append_own(
         (storage_of value.new text.new ends.new entries.new undo.new)
         (append_of (name_of named name.now) s) }
 {
-    let c = counts_of(words);
+    let c = Words(words).counts();
     let size = variant_size(x);
     let e = enter(
         words, marks, value, text, ends, entries, undo, named, name, true, false, own, size,
@@ -262,7 +260,7 @@ pub extern "C" fn variant_append_bytes(
         (storage_of value.new text.new ends.new entries.new undo.new)
         (append_of (name_of named name.now) (bytes_by kind bytes.now)) }
 {
-    let c = counts_of(words);
+    let c = Words(words).counts();
     let k = kind_of(kind);
     let size = bytes_size(k, bytes);
     let n = row(3 < kind, 7, row(ill_formed(k, bytes), 8, 0));
@@ -295,8 +293,7 @@ pub extern "C" fn variant_append_uuid(
         (storage_of value.new text.new ends.new entries.new undo.new)
         (append_of (name_of named name.now) (uuid_of uuid.now)) }
 {
-    sixteen(uuid);
-    let c = counts_of(words);
+    let c = Words(words).counts();
     let u = *uuid;
     let e = enter(
         words, marks, value, text, ends, entries, undo, named, name, true, false, 0, 17,
@@ -370,7 +367,7 @@ fn new_container(
         (storage_of value.now text.new ends.new entries.new undo.new)
         (open_in (name_of named name.now) object) }
 {
-    let c = counts_of(words);
+    let c = Words(words).counts();
     let e = enter(
         words, marks, value, text, ends, entries, undo, named, name, true, true, 0, 0,
     );
@@ -456,7 +453,7 @@ pub extern "C" fn variant_return_to(
         (return_to mark) }
 {
     let v = view_of(words, marks);
-    let d = saturating_sub(v.counts.depth, 1);
+    let d = v.counts.depth.saturating_sub(1);
     let p = mark_at(marks, d, mark);
     let r = return_over(v, value, text, ends, entries, undo, mark, p);
     if r.number != 0 {
@@ -520,17 +517,7 @@ fn enter(
         (storage_of value.now text.old ends.old entries.now undo.now) (name_of named name.now)
         into opens own size result text.new ends.new }
 {
-    let c = counts_of(words);
-    let k = inner_of(words, c.depth);
-    let p = parent_of(words, c.depth);
-    let v = View {
-        counts: c,
-        inner: k,
-        elements: elements_of(words, c.depth),
-        parent: p,
-        siblings: siblings_of(words, c.depth),
-        chain: chain_of(words, c.depth) & marks_hold(words, marks, c.depth),
-    };
+    let v = view_of(words, marks);
     let e = enter_over(
         v, value, text, ends, entries, undo, named, name, into, opens, own, size,
     );
@@ -539,19 +526,6 @@ fn enter(
     }
     let d = e.counts;
     put_counts(words, d);
-    put_elements(words, c.depth, e.elements);
+    put_elements(words, v.counts.depth, e.elements);
     e
-}
-
-fn count(bytes: &[u8]) -> usize
-    ensures { result ≡ length bytes.now }
-{
-    bytes.len()
-}
-
-// That there are 16 is known of a slice of them.
-fn sixteen(uuid: &[u8; 16]) -> usize
-    ensures { length uuid.now ≡ 16 }
-{
-    count(uuid)
 }

@@ -3,4 +3,4 @@ use Rattle.builder.proofs.view.fresh.Goals as goal
 
 pub returns : goal.returns
 unfolding fresh_of
-returns c = rw (c.no_container-e.ensures, c.fresh_counts-c.ensures)
+returns c = rw (c.no_container.ensures, c.fresh_counts.ensures)

@@ -12,4 +12,4 @@ pub returns : goal.returns
 returns c s t =
     let a = c.args in
     stored_appended a.words.now a.marks.now (storage_of a.value.now a.text.now a.ends.now a.entries.now a.undo.now) (name_of a.named a.name.now) t c.variant_size-size.ensures c.enter-e.ensures
-    c.if-e-ne0.false c.note.ensures.1 c.note.ensures.2 (rw c.counts_of-c.ensures at c.write_variant.ensures)
+    c.if-e-ne0.false c.note.ensures.1 c.note.ensures.2 (rw c.counts-c.ensures at c.write_variant.ensures)

@@ -9,10 +9,10 @@ use Rattle.ffi.proofs.calls.new_container.Goals.{Else-e-ne0, Start}
 abbrev lent : Start → Storage
 lent s = let a = s.args in storage_of a.value.now a.text.now a.ends.now a.entries.now a.undo.now
 
-deep : (i : Else-e-ne0) → i.counts_of-c.result.depth < 64
+deep : (i : Else-e-ne0) → i.counts-c.result.depth < 64
 deep i =
     let a = i.args in
-    rw i.counts_of-c.ensures (opens_deep a.words.now a.marks.now (storage_of a.value.now a.text.now a.ends.now a.entries.now a.undo.now) (name_of a.named a.name.now) a.object i.enter-e.ensures i.if-e-ne0.false)
+    rw i.counts-c.ensures (opens_deep a.words.now a.marks.now (storage_of a.value.now a.text.now a.ends.now a.entries.now a.undo.now) (name_of a.named a.name.now) a.object i.enter-e.ensures i.if-e-ne0.false)
 
 pub returns-then-e-ne0 : goal.returns-then-e-ne0
 returns-then-e-ne0 c =
@@ -29,5 +29,5 @@ pub returns : goal.returns
 returns c =
     let a = c.args in
     opens_done a.words.now a.marks.now (lent (goal.at.returns c).Start) (name_of a.named a.name.now) a.object c.enter-e.ensures c.if-e-ne0.false
-    c.note-p.ensures (rw c.counts_of-c.ensures at c.child-k.ensures) (rw c.counts_of-c.ensures at c.put_container.ensures)
-    (rw c.counts_of-c.ensures at c.put_elements.ensures)
+    c.note-p.ensures (rw c.counts-c.ensures at c.child-k.ensures) (rw c.counts-c.ensures at c.put_container.ensures)
+    (rw c.counts-c.ensures at c.put_elements.ensures)

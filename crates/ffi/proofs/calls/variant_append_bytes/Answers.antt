@@ -21,4 +21,4 @@ returns c =
     let f = rw k at c.ill_formed.ensures in
     bytes_appended a.words.now a.marks.now (storage_of a.value.now a.text.now a.ends.now a.entries.now a.undo.now) (name_of a.named a.name.now) a.kind a.bytes.now
     (c.row-n.ensures ∙ ap (cond (ltb 3 a.kind) 7) (c.row.ensures ∙ ap (λ t. cond t 8 0) f)) (rw k at c.bytes_size-size.ensures) c.enter-e.ensures
-    c.if-e-ne0.false c.note.ensures.1 c.note.ensures.2 (rw (k, c.counts_of-c.ensures) at c.write_bytes.ensures)
+    c.if-e-ne0.false c.note.ensures.1 c.note.ensures.2 (rw (k, c.counts-c.ensures) at c.write_bytes.ensures)

@@ -1,0 +1,151 @@
+// What a call sees of a builder's record and of the table of marks, whatever the record stands in: a `Builder`, or the state words of the C
+// interface.
+#![tactic(auto)]
+
+ghost use Rattle.std.specs.Prelude.{◌≡◌, ◌≤◌, ◌&&◌, ◌-◌, cond, leb};
+ghost use Rattle.semantics.specs.declared.Builder.{Builder};
+ghost use Rattle.semantics.specs.Record.{chained, container_at, elements_at, mark_now, marks_fit, marks_hold, no_container, rising, view_of};
+ghost use Rattle.semantics.specs.Record.{encloses as encloses_of, under as under_of};
+
+use marks::{NUMBERS, marks_fit};
+use metadata::{metadata_size, num_field_names};
+use semantics::{Builder, Container, Counts, Mark, View, no_container};
+
+// A builder's record, read piece by piece.
+pub trait Record {
+    ghost builder: { Self → Builder };
+
+    fn counts(&self) -> Counts
+        ensures { result ≡ (builder self.now).counts };
+
+    // The container at depth i, counted from 0.
+    fn container(&self, i: usize) -> Container
+        ensures { result ≡ container_at (builder self.now).containers i };
+
+    // Its elements.
+    fn elements(&self, i: usize) -> usize
+        ensures { result ≡ elements_at (builder self.now).elements i };
+}
+
+impl Record for Builder {
+    ghost builder = { λ b. b };
+
+    fn counts(&self) -> Counts {
+        self.counts
+    }
+
+    fn container(&self, i: usize) -> Container {
+        self.containers.get(i).copied().unwrap_or(no_container())
+    }
+
+    fn elements(&self, i: usize) -> usize {
+        self.elements.get(i).copied().unwrap_or(0)
+    }
+}
+
+pub fn view_of<R: Record>(r: &R, marks: &[usize; NUMBERS]) -> View
+    ensures { result ≡ view_of (R.builder r.now) marks.now }
+{
+    let counts = r.counts();
+    let d = counts.depth;
+    View {
+        counts,
+        inner: container_back(r, d, 1),
+        elements: elements_back(r, d, 1),
+        parent: container_back(r, d, 2),
+        siblings: elements_back(r, d, 2),
+        chain: holds(r, marks, d),
+    }
+}
+
+// Of d open containers the innermost, which is 1 back, or its parent, 2 back.
+fn container_back<R: Record>(r: &R, d: usize, back: usize) -> Container
+    ensures { result ≡ cond (leb back d) (container_at (R.builder r.now).containers (d - back)) no_container }
+{
+    match d.checked_sub(back) {
+        Some(i) => r.container(i),
+        None => no_container(),
+    }
+}
+
+// Its elements.
+fn elements_back<R: Record>(r: &R, d: usize, back: usize) -> usize
+    ensures { result ≡ cond (leb back d) (elements_at (R.builder r.now).elements (d - back)) 0 }
+{
+    match d.checked_sub(back) {
+        Some(i) => r.elements(i),
+        None => 0,
+    }
+}
+
+// Are at most 64 open, does no starting mark fall from one to the next, does no list with a child open in it count too much, and are the
+// marks that are set in each at most 16, and in order?
+fn holds<R: Record>(r: &R, marks: &[usize; NUMBERS], d: usize) -> bool
+    ensures { result ≡ (chained (R.builder r.now).containers (R.builder r.now).elements d
+        && marks_hold (R.builder r.now).containers (R.builder r.now).elements marks.now (R.builder r.now).counts d) }
+{
+    d <= 64 && rises(r, d) && marks_hold(r, marks, d)
+}
+
+fn rises<R: Record>(r: &R, d: usize) -> bool
+    requires { d ≤ 64 }
+    ensures { result ≡ rising (R.builder r.now).containers (R.builder r.now).elements (d - 1) }
+{
+    let mut ok = true;
+    for i in (1..d).rev() {
+        ok = ok & encloses(&r.container(i - 1), r.elements(i - 1), &r.container(i));
+    }
+    ok
+}
+
+// The step from a container of n elements to the one open in it; one above the data's bytes is that child.
+fn encloses(k: &Container, n: usize, l: &Container) -> bool
+    ensures { result ≡ encloses_of k.now n l.now }
+{
+    let above = n.saturating_sub(l.value.saturating_sub(k.value));
+    under(k, l) & (k.object | (above <= 1))
+}
+
+// Do the starting marks of the one lie at or below those of the other?
+fn under(k: &Container, l: &Container) -> bool
+    ensures { result ≡ under_of k.now l.now }
+{
+    let entries = (k.entries <= l.entries) & (k.undo <= l.undo);
+    (k.value <= l.value) & ((k.names <= l.names) & ((k.text <= l.text) & entries))
+}
+
+fn marks_hold<R: Record>(r: &R, marks: &[usize; NUMBERS], d: usize) -> bool
+    requires { d ≤ 64 }
+    ensures { result ≡ marks_hold (R.builder r.now).containers (R.builder r.now).elements marks.now
+        (R.builder r.now).counts d }
+{
+    let mut ok = true;
+    for i in (0..d).rev() {
+        ok = ok & fits_at(r, marks, i);
+    }
+    ok
+}
+
+// Are the marks of the container at depth i? Most containers have none.
+fn fits_at<R: Record>(r: &R, marks: &[usize; NUMBERS], i: usize) -> bool
+    ensures { result ≡ marks_fit marks.now i (container_at (R.builder r.now).containers i) (mark_now (R.builder r.now).counts
+        (elements_at (R.builder r.now).elements i) (container_at (R.builder r.now).containers i).unique) }
+{
+    let k = r.container(i);
+    k.marks == 0 || marks_fit(marks, i, k, mark_now(r.counts(), r.elements(i), k.unique))
+}
+
+// What a mark would be now in a container with n elements.
+fn mark_now(c: Counts, n: usize, unique: bool) -> Mark
+    ensures { result ≡ mark_now c n unique }
+{
+    Mark {
+        value: c.value,
+        names: num_field_names(c.dictionary),
+        text: metadata_size(c.dictionary),
+        entries: c.entries,
+        undo: c.undo,
+        count: n,
+        unique,
+    }
+}

@@ -22,7 +22,7 @@ use Rattle.live.specs.Words.{words}
 use Rattle.live.specs.Texts.{words_for}
 use Rattle.text_search.specs.Search.{least_in, place_in}
 use Rattle.text_search.proofs.SearchLaws.{least_read}
-use Rattle.path_words.specs.declared.NoRoom as room
+use Rattle.encoding.specs.declared.slices.NoRoom as room
 use Rattle.path_words.specs.Descent.{path_in}
 use Rattle.path_words.specs.Writing.{WritesWords}
 use Rattle.path_words.proofs.DescentLaws.{words_read}

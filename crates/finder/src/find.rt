@@ -2,7 +2,8 @@
 ghost use Rattle.std.specs.Prelude.{◌≡◌};
 ghost use Rattle.finder.specs.Finds.{FindsText};
 
-use path_words::{NoRoom, write_path};
+use encoding::slices::NoRoom;
+use path_words::write_path;
 use reader::read_pair;
 use text_search::least_place;
 

@@ -9,7 +9,7 @@ use Rattle.std.specs.Prelude.{Ok, Err}
 use Rattle.encoding.specs.Slices.{fits, write}
 use Rattle.encoding.proofs.SliceLaws.{fits_within}
 use Rattle.live.specs.Words.{Path, record_word, steps_words, words}
-use Rattle.path_words.specs.declared.NoRoom.{NoRoom}
+use Rattle.encoding.specs.declared.slices.NoRoom.{NoRoom}
 use Rattle.path_words.specs.Writing.{WritesWords}
 use Rattle.path_words.proofs.FrontLaws.{behind, put_behind, then_front}
 

@@ -2,7 +2,7 @@
 use Rattle.std.specs.Prelude.{◌≡◌, cond, Result, Ok, Err, List, [], ◌++◌, ℕ, length}
 use Rattle.encoding.specs.Slices.{fits, write}
 use Rattle.live.specs.Words.{Step, field, element, decimal, field_word, bytes_word, element_word}
-use Rattle.path_words.specs.declared.NoRoom.{NoRoom}
+use Rattle.encoding.specs.declared.slices.NoRoom.{NoRoom}
 
 -- "for each step `, field N bytes NAME` or `, element K`"
 abbrev pub step_words : Step → List ℕ

@@ -20,7 +20,3 @@ pub struct Child {
     pub step: Step,
     pub start: usize,
 }
-
-// That words do not fit.
-#[derive(Clone, Copy, PartialEq, Eq, Debug)]
-pub struct NoRoom;

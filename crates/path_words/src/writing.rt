@@ -9,8 +9,8 @@ ghost use Rattle.path_words.specs.Writing.{WritesWords, step_words};
 
 use crate::descent::child_over;
 use crate::sizes::{decimal_size, steps_size};
-use crate::{Child, NoRoom, Step};
-use encoding::slices::fits;
+use crate::{Child, Step};
+use encoding::slices::{NoRoom, fits};
 use header_reader::value_from;
 use lexicon::name_at;
 

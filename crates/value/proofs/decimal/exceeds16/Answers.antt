@@ -19,11 +19,11 @@ returns-then-is_negative c =
     c.args.high (rw f at c.is_negative.ensures) c.if-is_negative.true
     (λ n. rw (whole_negative n l c.ranges.low.fits) (sym (leb-suc-suc (10 ^ 38 - 1) (n * 2 ^ 64 + (2 ^ 64 - 1 - l))))))
 
-pub returns : goal.returns
-returns c =
+pub returns-else-is_negative : goal.returns-else-is_negative
+returns-else-is_negative c =
     let l = c.args.low in
     let f = to_z-of_z w64 c.args.high c.ranges.high in
-    rw (c.halves_exceed-2.ensures, c.mag-2.ensures, f)
+    rw (c.halves_exceed-else-is_negative.ensures, c.mag-else-is_negative.ensures, f)
     (by_no_sign (λ z. ltb (10 ^ 38 - 1) (mag z * 2 ^ 64 + l) ≡ ltb (10 ^ 38 - 1) (nat_abs (whole z l)))
     c.args.high (rw f at c.is_negative.ensures) c.if-is_negative.false
     (λ n. rw (whole_natural n l)))

@@ -1,11 +1,12 @@
 -- The table beyond its end; and the marks of a container, from the latest to its start.
-use mathlib.Core.Path.{◌≡◌, refl, sym, ◌∙◌}
+use mathlib.Core.Path.{◌≡◌, refl, sym}
 use mathlib.Core.Bool.{Bool, true, false, cond, ◌&&◌}
 use mathlib.Core.List.{List}
 use Prim.Native.Nat.{ℕ, zero, suc, ◌+◌, ◌-◌, ◌≤◌, ◌<◌}
 use native.Mathlib.Omega.{arith}
 use lib.ListN.{length, get_or, set, get_or-eq_default}
 use lib.Seq.{set_out}
+use mir.Val.{bool_byte}
 use Rattle.semantics.specs.declared.Mark.{Mark}
 use Rattle.semantics.specs.Record.{falling, mark_at, marks_of, no_mark, not_above, slot_of}
 use Rattle.semantics.specs.Step.{put_mark}
@@ -28,27 +29,35 @@ put_beyond ms at m h =
     out : (i n : ℕ) → length ms ≤ i → set ms i n ≡ ms
     out i n h = set_out ms i n h
 
--- ---- the marks in order: what was found so far, and what the rest gives, is the answer
+-- a uniqueness mark as a number
+pub byte_is : (b : Bool) → bool_byte b ≡ cond b 1 0
+byte_is true = refl
+byte_is false = refl
 
-pub record InOrder (t object : Bool) (start : Mark) (ms : List ℕ) (d : ℕ) (ok : Bool) (later : Mark) (j : ℕ) : Type 0 where
-  pub same : (ok && falling object start (marks_of ms d j) later) ≡ t
+-- ---- the marks in order: what the rest gives is the answer
 
-pub order_again : {t object : Bool} {start : Mark} {ms : List ℕ} {d : ℕ} {ok below : Bool} {later m : Mark} {j : ℕ} → InOrder t object start ms d ok later j → 0 < j
-    → m ≡ mark_at ms (slot_of d j) → below ≡ not_above object m later → InOrder t object start ms d (ok && below) m (j - 1)
-unfolding falling marks_of
-order_again {t} {object} {start} {ms} {d} {ok} {below} {later} {m} {j} x h e f = go j x h e
-  where
-    and_assoc : (a b c : Bool) → ((a && b) && c) ≡ (a && (b && c))
-    and_assoc true b c = refl
-    and_assoc false b c = refl
+pub record InOrder (t object : Bool) (start : Mark) (ms : List ℕ) (d : ℕ) (later : Mark) (j : ℕ) : Type 0 where
+  pub same : falling object start (marks_of ms d j) later ≡ t
 
-    go : (j : ℕ) → InOrder t object start ms d ok later j → 0 < j → m ≡ mark_at ms (slot_of d j) → InOrder t object start ms d (ok && below) m (j - 1)
-    go zero x h e = absurd (omega arith)
-    go (suc j) x h e =
-        let p : suc j - 1 ≡ j = omega arith in
-        rw p (record { same = and_assoc ok below (falling object start (marks_of ms d j) m) ∙ (rw (← e, ← f) at x.same) })
+module _ {t object : Bool} {start : Mark} {ms : List ℕ} {d : ℕ} {later : Mark} where
+  module _ {j : ℕ} (x : InOrder t object start ms d later j) {below : Bool} {m : Mark} (h : 0 < j) (e : m ≡ mark_at ms (slot_of d j))
+      (f : below ≡ not_above object m later) where
+    order_next : (below && falling object start (marks_of ms d (j - 1)) m) ≡ t
+    unfolding falling marks_of
+    order_next = go j h e x.same
+      where
+        go : (j : ℕ) → 0 < j → m ≡ mark_at ms (slot_of d j) → falling object start (marks_of ms d j) later ≡ t
+            → (below && falling object start (marks_of ms d (j - 1)) m) ≡ t
+        go zero h e s = absurd (omega arith)
+        go (suc j) h e s = let p : suc j - 1 ≡ j = omega arith in rw p (rw (← e, ← f) at s)
 
-pub order_end : {t object : Bool} {start : Mark} {ms : List ℕ} {d : ℕ} {ok : Bool} {later : Mark} {j : ℕ} → InOrder t object start ms d ok later j → j ≡ 0
-    → (ok && not_above object start later) ≡ t
-unfolding falling marks_of
-order_end x e = rw e at x.same
+    pub order_again : below ≡ true → InOrder t object start ms d m (j - 1)
+    order_again q = record { same = rw q at order_next }
+
+    -- one that is above the one after it
+    pub order_fails : below ≡ false → false ≡ t
+    order_fails q = rw q at order_next
+
+  pub order_end : {j : ℕ} → InOrder t object start ms d later j → j ≡ 0 → not_above object start later ≡ t
+  unfolding falling marks_of
+  order_end x e = rw e at x.same

@@ -1,16 +1,9 @@
-use Rattle.semantics.specs.Record.{slot_of}
-use mathlib.Core.Path.{◌≡◌, ◌∙◌}
 use native.Mathlib.Omega.{arith}
+use Rattle.semantics.specs.Record.{slot_of}
 use Rattle.marks.proofs.TableLaws.{mark_beyond}
 use Rattle.marks.proofs.mark_at.Goals as goal
 
-pub returns-then-p-gt7161 : goal.returns-then-p-gt7161
-returns-then-p-gt7161 c =
+pub returns-in-None : goal.returns-in-None
+returns-in-None c =
     let a = c.args in
-    c.no_mark.ensures ∙ mark_beyond a.marks.now (slot_of a.d a.j) (omega (arith, c.whole.ensures, c.place_of-p.ensures, c.if-p-gt7161.true))
-
-pub returns : goal.returns
-returns c =
-    let a = c.args in
-    let e : c.place_of-p.result ≡ slot_of a.d a.j = omega (arith, c.place_of-p.ensures, c.if-p-gt7161.false) in
-    rw e at c.read.ensures
+    mark_beyond a.marks.now (slot_of a.d a.j) (omega (arith, rw c.in-None.is at c.place_of.ensures))

@@ -1,25 +1,24 @@
 -- A call over state words, from the call over pieces.
 use mathlib.Core.Path.{◌≡◌, refl, sym, ◌∙◌, ap, subst}
-use mathlib.Core.Bool.{Bool, true, false, cond, true≢false}
+use mathlib.Core.Bool.{Bool, true, false}
 use mathlib.Core.List.{List}
 use mathlib.Core.Option.{Option}
 use Prim.Native.Nat.{ℕ, ◌+◌, ◌-◌, ◌<◌, ◌≤◌}
 use native.Mathlib.Omega.{arith}
-use lib.Dec.{eqb, leb, ltb}
+use lib.Dec.{eqb, leb}
 use lib.ListN.{length, set}
 use lib.Seq.{get_or-set_same}
 use borrow.Author.Tests.{eqb-true, eqb-false, eq-eqb, ne_eqb, leb-true, ltb-true, lt-ltb, not-false}
 use Rattle.encoding.specs.Rows.{first}
 use Rattle.encoding.specs.Slices.{Placed, Writes}
-use Rattle.value.specs.declared.variant.Variant.{Variant}
-use Rattle.value.specs.Scalar.{ill_formed, scalar_bytes, stored_bytes, stored_variant}
+use Rattle.value.specs.Scalar.{scalar_bytes}
 use Rattle.metadata.specs.Names.{Name}
 use Rattle.semantics.specs.declared.Builder.{Builder}
 use Rattle.semantics.specs.declared.Container.{Container}
 use Rattle.semantics.specs.declared.Mark.{Mark}
 use Rattle.semantics.specs.declared.ParentEntry.{ParentEntry}
 use Rattle.semantics.specs.declared.View.{View}
-use Rattle.semantics.specs.Record.{Storage, Call, Scalars, fixed, bytes, append, register, scalar_of, open_in, close, roll_back, uniqueness, set_mark, return_to, finish, chained, container_at, good_floor, is_open, mark_at, no_container, no_mark, slot_of, view_of, storage_of, table_size}
+use Rattle.semantics.specs.Record.{Storage, Call, Scalars, append, register, scalar_of, open_in, close, roll_back, uniqueness, set_mark, return_to, finish, chained, container_at, good_floor, is_open, mark_at, no_container, no_mark, slot_of, view_of, storage_of, table_size}
 use Rattle.semantics.specs.Damage.{damaged, over_used, unchained}
 use Rattle.semantics.specs.Table.{scalar_rows, number_of}
 use Rattle.refusals.specs.Decide.{enter_rows, name_of}
@@ -34,14 +33,13 @@ use Rattle.actions.specs.declared.Returned.{Returned}
 use Rattle.actions.specs.declared.UniqueSet.{UniqueSet}
 use Rattle.actions.specs.declared.Ended.{Ended}
 use Rattle.actions.specs.declared.enter.Entered.{Entered}
-use Rattle.actions.specs.Actions.{EntersBy, Leaves, Returns, SetsMark, SetsUnique, StoredAs, Ends, child_of, elements_put, entries_put, parent_put, undo_put}
+use Rattle.actions.specs.Actions.{EntersBy, Leaves, Returns, SetsMark, SetsUnique, Ends, child_of, elements_put, entries_put, parent_put, undo_put}
 use Rattle.actions.proofs.EnterLaws.{enter_clears}
-use Rattle.actions.proofs.AppendLaws.{append_refused, append_rows_lem, append_stays, append_writes, stored_stays, stored_writes}
+use Rattle.actions.proofs.AppendLaws.{append_stays, append_writes}
 use Rattle.actions.proofs.MarkLaws.{return_reachable}
 use Rattle.actions.proofs.OpenLaws.{opens, opens_refused, registers}
 use Rattle.actions.proofs.UniqueLaws.{unique_open}
 use Rattle.actions.proofs.ElementLaws.{Stays, elements_left_lem, elements_opened}
-use Rattle.ffi.specs.Scalars.{bytes_by, kind_of, no_scalar}
 use Rattle.ffi.specs.Words.{builder_of, container_left, containers_of, counts_of, elements_of, inner_left, state_of, words_left, DoesWords, EntersWords, FinishesWords, Puts, PutsContainer, PutsCounts, PutsElements, PutsInner}
 use Rattle.ffi.proofs.WordLaws.{containers_length, elements_length}
 
@@ -138,47 +136,10 @@ module _ (ws ms : List ℕ) (l : Storage) (nm : Option Name) (x : Scalars) {own 
       → (own ≡ 0 → Writes (counts_of ws).value (scalar_bytes (scalar_of x)) l.value p value) → DoesWords 0 ws us ms ms l (storage_of value text ends entries undo) (append nm x)
   does_appended z g i b = rw z at (does_moved ws ms l (append nm x) tt refl (append_writes x o s w.enters z g i b) (puts_entered w))
 
--- one that is stored as a scalar of fixed size
-module _ (ws ms : List ℕ) (l : Storage) (nm : Option Name) {s : Scalars} {x : Variant} {own size : ℕ} {e : Entered} {us text ends : List ℕ} (t : StoredAs s x own)
-    (h : size ≡ length (scalar_bytes (stored_variant x))) (w : EntersWords ws us ms l nm true false own size e text ends) where
-  pub stored_refused : (e.number ≡ 0 → ⊥) → DoesWords e.number ws us ms ms l (storage_of l.value text ends l.entries l.undo) (append nm s)
-  stored_refused z = does_moved ws ms l (append nm s) tt refl (stored_stays t h w.enters z) (puts_entered w)
-
-  pub stored_appended : {p : Placed} {value entries undo : List ℕ} → e.number ≡ 0 → entries ≡ entries_put e l.entries → undo ≡ undo_put e l.entries l.undo
-      → Writes (counts_of ws).value (scalar_bytes (stored_variant x)) l.value p value → DoesWords 0 ws us ms ms l (storage_of value text ends entries undo) (append nm s)
-  stored_appended z g i b = rw z at (does_moved ws ms l (append nm s) tt refl (stored_writes t h w.enters z g i b) (puts_entered w))
-
 -- a name registered
 pub does_registered : (ws ms : List ℕ) (l : Storage) (name : Name) {e : Entered} {us text ends : List ℕ} → EntersWords ws us ms l (name_of true name) false false 0 0 e text ends
     → DoesWords e.number ws us ms ms l (storage_of l.value text ends l.entries l.undo) (register name)
 does_registered ws ms l name w = does_moved ws ms l (register name) tt refl (registers name w.enters) (puts_entered w)
-
--- bytes of a kind by its code, from what is entered
-module _ (ws ms : List ℕ) (l : Storage) (nm : Option Name) (kind : ℕ) (bs : List ℕ) {own size : ℕ} {e : Entered} {us text ends : List ℕ}
-    (o : own ≡ cond (ltb 3 kind) 7 (cond (ill_formed (kind_of kind) bs) 8 0)) (s : size ≡ length (scalar_bytes (stored_bytes (kind_of kind) bs))) (w : EntersWords ws us ms l nm true false own size e text ends) where
-  -- of an unknown kind the rows are those of what is no scalar
-  unknown : own ≡ 7 → first (enter_rows (view_of (builder_of ws) ms) l nm true false own size) ≡ number_of (view_of (builder_of ws) ms) l (append nm (fixed no_scalar))
-  unfolding first
-  unknown h = rw h (append_rows_lem (view_of (builder_of ws) ms) l nm (fixed no_scalar) {own = 7} {size = length (scalar_bytes (scalar_of (fixed no_scalar)))} refl (λ _. refl))
-
-  pub bytes_refused : (e.number ≡ 0 → ⊥) → DoesWords e.number ws us ms ms l (storage_of l.value text ends l.entries l.undo) (append nm (bytes_by kind bs))
-  unfolding bytes_by first
-  bytes_refused z = go (ltb 3 kind) refl
-    where
-      go : (t : Bool) → ltb 3 kind ≡ t → DoesWords e.number ws us ms ms l (storage_of l.value text ends l.entries l.undo) (append nm (bytes_by kind bs))
-      go true p = rw p (does_moved ws ms l (append nm (fixed no_scalar)) tt refl (append_refused (fixed no_scalar) own (unknown (rw p at o)) w.enters z) (puts_entered w))
-      go false p = rw p (does_refused ws ms l nm (bytes (kind_of kind) bs) (rw p at o) (λ _. s) w z)
-
-  pub bytes_appended : {p : Placed} {value entries undo : List ℕ} → e.number ≡ 0 → entries ≡ entries_put e l.entries → undo ≡ undo_put e l.entries l.undo
-      → Writes (counts_of ws).value (scalar_bytes (stored_bytes (kind_of kind) bs)) l.value p value → DoesWords 0 ws us ms ms l (storage_of value text ends entries undo) (append nm (bytes_by kind bs))
-  unfolding bytes_by first
-  bytes_appended {p} {value} {entries} {undo} z g i b = go (ltb 3 kind) refl
-    where
-      go : (t : Bool) → ltb 3 kind ≡ t → DoesWords 0 ws us ms ms l (storage_of value text ends entries undo) (append nm (bytes_by kind bs))
-      go true p =
-          let n = sym (unknown (rw p at o)) ∙ (sym w.enters.number ∙ z) in
-          absurd (true≢false (none_at (view_of (builder_of ws) ms) l (append nm (fixed no_scalar)) n 7))
-      go false p = rw p (does_appended ws ms l nm (bytes (kind_of kind) bs) (rw p at o) (λ _. s) w z g i (λ _. b))
 
 -- ---- a container put
 

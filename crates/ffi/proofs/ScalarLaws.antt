@@ -1,34 +1,39 @@
--- A signed number cut to a narrower type, and the scalar that number 7 refuses.
-use mathlib.Core.Path.{◌≡◌, refl, ◌∙◌, ap}
-use mathlib.Core.Bool.{true, false}
-use Prim.Native.Nat.{ℕ, ◌<◌, ◌≤◌, ◌^◌}
-use lib.Dec.{ltb}
-use lib.IntN.{ℤ}
-use lib.Signed.{mag}
-use borrow.Author.Tests.{lt-ltb, le-ltb}
-use mir.Syntax.{Width, w64}
-use mir.Val.{SFits, hbits, of_z, to_z}
-use mir.ValLaws.{to_z-of_z}
+-- Bytes by the code of their kind, the sixteen bytes of a UUID, and the scalar that number 7 refuses.
+use Rattle.std.proofs.Common.{◌≡◌, ◌∙◌, ◌++◌, Bool, true, false, cond, List, ℕ, Option, None, Some, length, ltb, refl, replicate, sym, take, ap}
+use lib.Seq.{take-append_seam}
+use Rattle.encoding.specs.Rows.{first}
+use Rattle.value.specs.declared.variant.VariantBytes.{VariantBytes}
 use Rattle.value.specs.Decimal.{out_of_range}
-use Rattle.ffi.specs.Scalars.{no_scalar}
+use Rattle.semantics.specs.Record.{bytes, fixed, sixteen}
+use Rattle.semantics.specs.Table.{scalar_rows}
+use Rattle.ffi.specs.Scalars.{bytes_by, kind_of, no_scalar}
 
 -- what is no scalar is refused: by number 7, where no earlier row holds
 pub no_scalar_refused : out_of_range no_scalar ≡ true
 no_scalar_refused = refl
 
--- an i64 whose magnitude fits a type of w bits, cast to it
-pub record Narrowed (w : Width) (z : ℤ) : Type 0 where
-  pub is : to_z w (of_z w (to_z w64 (of_z w64 z))) ≡ z
-  pub test : ltb (mag z) (2 ^ hbits w) ≡ true
+pub unknown_row : 7 ≡ first (scalar_rows (fixed no_scalar))
+unfolding first
+unknown_row = refl
 
-pub narrow : (w : Width) (z : ℤ) {m : ℕ} → SFits w64 z → m ≡ mag (to_z w64 (of_z w64 z)) → m < 2 ^ hbits w → Narrowed w z
-narrow w z {m} f e h =
-    let p : m ≡ mag z = e ∙ ap mag (to_z-of_z w64 z f) in
-    let g : mag z < 2 ^ hbits w = rw (← p) h in
-    record { is = rw (to_z-of_z w64 z f) (to_z-of_z w z (record { sfits = g })); test = lt-ltb (mag z) (2 ^ hbits w) g }
+-- bytes of a kind that there is, and of one that there is not
+module _ (code : ℕ) (bs : List ℕ) {o : Option VariantBytes} (e : o ≡ cond (ltb 3 code) None (Some (kind_of code))) where
+  pub known_kind : {k : VariantBytes} → o ≡ Some k → bytes_by code bs ≡ bytes k bs
+  unfolding bytes_by
+  known_kind {k} s = go (ltb 3 code) (sym e ∙ s)
+    where
+      go : (t : Bool) → cond t None (Some (kind_of code)) ≡ Some k → cond t (fixed no_scalar) (bytes (kind_of code) bs) ≡ bytes k bs
+      go true p = absurd (cc)
+      go false p = cc
 
--- one whose magnitude does not fit
-pub wide : (w : Width) (z : ℤ) {m : ℕ} → SFits w64 z → m ≡ mag (to_z w64 (of_z w64 z)) → 2 ^ hbits w ≤ m → ltb (mag z) (2 ^ hbits w) ≡ false
-wide w z {m} f e h =
-    let p : m ≡ mag z = e ∙ ap mag (to_z-of_z w64 z f) in
-    le-ltb (mag z) (2 ^ hbits w) (rw (← p) h)
+  pub unknown_kind : o ≡ None → bytes_by code bs ≡ fixed no_scalar
+  unfolding bytes_by
+  unknown_kind n = go (ltb 3 code) (sym e ∙ n)
+    where
+      go : (t : Bool) → cond t None (Some (kind_of code)) ≡ None → cond t (fixed no_scalar) (bytes (kind_of code) bs) ≡ fixed no_scalar
+      go true p = refl
+      go false p = absurd (cc)
+
+-- its 16 bytes are not cut or filled
+pub sixteen_whole : (bs : List ℕ) → length bs ≡ 16 → sixteen bs ≡ bs
+sixteen_whole bs e = ap (λ n. take n (bs ++ replicate 16 0)) (sym e) ∙ take-append_seam bs (replicate 16 0)

@@ -1,21 +1,19 @@
 -- What the state words mean, after they are read and written.
 use mathlib.Core.Path.{◌≡◌, refl, sym, ◌∙◌, ap}
-use mathlib.Core.Bool.{Bool, true, false, ◌&&◌}
+use mathlib.Core.Bool.{Bool, true, false}
 use mathlib.Core.List.{List, [], ◌∷◌}
 use Prim.Native.Nat.{ℕ, zero, suc, ◌+◌, ◌-◌, ◌≤◌, ◌<◌}
 use native.Mathlib.Omega.{arith}
-use lib.Dec.{eqb, leb}
 use lib.ListN.{length, length-set, get_or, set}
 use lib.Seq.{get_or-set_other, get_or-set_same}
-use borrow.Author.Tests.{lt-ltb, le-ltb, le-leb}
+use borrow.Author.Tests.{lt-ltb, le-ltb}
 use mir.Val.{bool_byte}
 use Rattle.semantics.specs.declared.Builder.{Builder}
 use Rattle.semantics.specs.declared.Container.{Container}
 use Rattle.semantics.specs.declared.Counts.{Counts}
 use Rattle.semantics.specs.declared.ParentEntry.{ParentEntry}
 use Rattle.semantics.specs.declared.ParentEntry.TheVariants.{New, Replaced}
-use Rattle.semantics.specs.Record.{no_container, chained, container_at, elements_at, marks_hold, rising}
-use Rattle.semantics.proofs.ViewLaws.{both}
+use Rattle.semantics.specs.Record.{no_container, container_at, elements_at}
 use Rattle.actions.proofs.ElementLaws.{set_beyond}
 use Rattle.ffi.specs.Words.{word_at, flag, counts_of, parent_entry_of, container_from, container_word, container_of, row_from, containers_of, elements_word, elements_of, builder_of, word_of, tag_of, id_of, offset_of, put_from, counts_words, counts_put, container_words, container_put, PutsCounts, PutsContainer, PutsElements, PutsInner}
 

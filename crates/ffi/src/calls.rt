@@ -19,16 +19,19 @@
 // The names are derived from the methods of `VariantBuilder`, `ListBuilder` and `ObjectBuilder` of parquet-variant 60.1.0 (see NOTICE).
 // Changed: written in Rattle, over state words.
 ghost use Rattle.std.specs.Prelude.{◌≡◌, false, true};
-ghost use Rattle.semantics.specs.Record.{Scalars, append as append_of, close as close_of, fixed, open_in, packed, register as register_of, return_to, roll_back, set_mark, storage_of, uniqueness, uuid as uuid_of};
+ghost use Rattle.semantics.specs.Record.{Scalars, scalar_of, append as append_of, close as close_of, fixed, open_in, packed, register as register_of, return_to, roll_back, set_mark, storage_of, uniqueness, uuid as uuid_of};
 ghost use Rattle.refusals.specs.Decide.{name_of};
-ghost use Rattle.actions.specs.Actions.{StoredAs};
+ghost use Rattle.encoding.specs.Rows.{first};
+ghost use Rattle.value.specs.Scalar.{scalar_bytes};
+ghost use Rattle.semantics.specs.Table.{scalar_rows};
 ghost use Rattle.ffi.specs.Dates.{civil_by, date_of};
 ghost use Rattle.ffi.specs.Scalars.{bytes_by, variant_of};
 ghost use Rattle.ffi.specs.Words.{DoesWords, EntersWords, FinishesWords, MakesWords};
 
 use crate::WORDS;
 use crate::dates::civil_by;
-use crate::scalars::{kind_of, variant_of};
+use crate::scalars::{kind_of, no_scalar, variant_of};
+use crate::stored::{OfKind, Stored};
 use crate::words::{Words, moved, put_container, put_counts, put_elements, view_of};
 use actions::{
     Entered, child, close_over, enter_over, finish_over, mark_over, note, packed_own, return_over,
@@ -38,8 +41,7 @@ use marks::{NUMBERS, mark_at, put_mark};
 use records::Record;
 use refusals::{make_number, row};
 use semantics::fresh_counts;
-use value::scalar::{bytes_size, variant_size, write_bytes, write_uuid, write_variant};
-use value::variant::{Variant, ill_formed, out_of_range};
+use value::variant::{ill_formed, out_of_range};
 
 // A fresh builder; children inherit the uniqueness mark, and offsets, ids and dictionary numbers take no fewer bytes than the floor, 1 to 4.
 // It sets the counts alone. Any other floor is 24, and nothing is made.
@@ -144,9 +146,9 @@ pub extern "C" fn variant_append_value(
         (append_of (name_of named name.now) (fixed (variant_of code z low scale))) }
 {
     let x = variant_of(code, z, low, scale);
-    let n = row(out_of_range(x), 7, 0);
-    append_own(
-        words, marks, value, text, ends, entries, undo, named, name, x, n,
+    let own = row(out_of_range(x), 7, 0);
+    append(
+        words, marks, value, text, ends, entries, undo, named, name, &x, own,
     )
 }
 
@@ -175,9 +177,8 @@ pub extern "C" fn variant_append_civil(
         (append_of (name_of named name.now) (civil_by code (date_of year month day) time)) }
 {
     let s = civil_by(code, year, month, day, time);
-    let x = s.variant;
-    append_own(
-        words, marks, value, text, ends, entries, undo, named, name, x, s.number,
+    append(
+        words, marks, value, text, ends, entries, undo, named, name, &s.variant, s.number,
     )
 }
 
@@ -202,14 +203,13 @@ pub extern "C" fn variant_append_packed(
         (append_of (name_of named name.now) (packed scale bytes.now)) }
 {
     let o = packed_own(bytes, scale);
-    let x = o.variant;
-    append_own(
-        words, marks, value, text, ends, entries, undo, named, name, x, o.number,
+    append(
+        words, marks, value, text, ends, entries, undo, named, name, &o.variant, o.number,
     )
 }
 
-// A scalar that is stored as one of fixed size, with its own number, 0 where it has none.
-fn append_own(
+// What a scalar is stored as, with its own number, 0 where it has none.
+fn append<S: Stored>(
     words: &mut [usize; WORDS],
     marks: &[usize; NUMBERS],
     value: &mut [u8],
@@ -219,16 +219,17 @@ fn append_own(
     undo: &mut [usize],
     named: bool,
     name: &[u8],
-    x: Variant,
+    x: &S,
     own: u8,
 ) -> u8
-    ensures { (s : Scalars) → StoredAs s x own → DoesWords result words.old words.new marks.now marks.now
+    ensures { (s : Scalars) → own ≡ first (scalar_rows s) → (own ≡ 0 → scalar_bytes (scalar_of s) ≡ S.stored x.now)
+        → DoesWords result words.old words.new marks.now marks.now
         (storage_of value.old text.old ends.old entries.old undo.old)
         (storage_of value.new text.new ends.new entries.new undo.new)
         (append_of (name_of named name.now) s) }
 {
     let c = Words(words).counts();
-    let size = variant_size(x);
+    let size = x.size();
     let e = enter(
         words, marks, value, text, ends, entries, undo, named, name, true, false, own, size,
     );
@@ -236,7 +237,7 @@ fn append_own(
         return e.number;
     }
     note(e, entries, undo);
-    let _ = write_variant(value, c.value, x);
+    x.write(value, c.value);
     0
 }
 
@@ -260,19 +261,28 @@ pub extern "C" fn variant_append_bytes(
         (storage_of value.new text.new ends.new entries.new undo.new)
         (append_of (name_of named name.now) (bytes_by kind bytes.now)) }
 {
-    let c = Words(words).counts();
-    let k = kind_of(kind);
-    let size = bytes_size(k, bytes);
-    let n = row(3 < kind, 7, row(ill_formed(k, bytes), 8, 0));
-    let e = enter(
-        words, marks, value, text, ends, entries, undo, named, name, true, false, n, size,
-    );
-    if e.number != 0 {
-        return e.number;
+    match kind_of(kind) {
+        Some(kind) => {
+            let own = row(ill_formed(kind, bytes), 8, 0);
+            let x = OfKind { kind, bytes };
+            append(
+                words, marks, value, text, ends, entries, undo, named, name, &x, own,
+            )
+        }
+        None => append(
+            words,
+            marks,
+            value,
+            text,
+            ends,
+            entries,
+            undo,
+            named,
+            name,
+            &no_scalar(),
+            7,
+        ),
     }
-    note(e, entries, undo);
-    let _ = write_bytes(value, c.value, k, bytes);
-    0
 }
 
 #[unsafe(no_mangle)]
@@ -293,17 +303,9 @@ pub extern "C" fn variant_append_uuid(
         (storage_of value.new text.new ends.new entries.new undo.new)
         (append_of (name_of named name.now) (uuid_of uuid.now)) }
 {
-    let c = Words(words).counts();
-    let u = *uuid;
-    let e = enter(
-        words, marks, value, text, ends, entries, undo, named, name, true, false, 0, 17,
-    );
-    if e.number != 0 {
-        return e.number;
-    }
-    note(e, entries, undo);
-    let _ = write_uuid(value, c.value, u);
-    0
+    append(
+        words, marks, value, text, ends, entries, undo, named, name, uuid, 0,
+    )
 }
 
 #[unsafe(no_mangle)]

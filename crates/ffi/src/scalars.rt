@@ -1,13 +1,12 @@
 // A scalar of fixed size from numbers: the code of its type, a signed number, an unsigned number and a scale; and a kind of bytes from its
 // code.
 ghost use Rattle.std.specs.Prelude.{◌≡◌, cond, ltb};
-ghost use Rattle.value.specs.declared.variant.Variant.TheVariants.{Int8 as int8, Int16 as int16, Int32 as int32, Date as date, Decimal4 as decimal4, Float as float};
-ghost use Rattle.ffi.specs.Scalars.{kind_of, no_scalar, variant_of, within};
+ghost use Rattle.ffi.specs.Scalars.{kind_of, no_scalar, variant_of};
 
-use encoding::signed::mag;
 use value::decimal::{VariantDecimal4, VariantDecimal8, VariantDecimal16};
 use value::variant::{Variant, VariantBytes};
 
+#[tactic(auto, unfolding(crate::specs::Scalars::variant_of))]
 pub(crate) fn variant_of(code: u8, z: i64, low: u64, scale: u8) -> Variant
     ensures { result ≡ variant_of code z low scale }
 {
@@ -15,25 +14,24 @@ pub(crate) fn variant_of(code: u8, z: i64, low: u64, scale: u8) -> Variant
         0 => Variant::Null,
         1 => Variant::BooleanTrue,
         2 => Variant::BooleanFalse,
-        3 => int8_of(z),
-        4 => int16_of(z),
-        5 => int32_of(z),
+        3 => i8::try_from(z).map_or(no_scalar(), Variant::Int8),
+        4 => i16::try_from(z).map_or(no_scalar(), Variant::Int16),
+        5 => i32::try_from(z).map_or(no_scalar(), Variant::Int32),
         6 => Variant::Int64(z),
         7 => Variant::Double(low),
-        8 => decimal4_of(z, scale),
-        9 => Variant::Decimal8(VariantDecimal8 {
-            integer: z,
-            scale: scale,
+        8 => i32::try_from(z).map_or(no_scalar(), |integer| {
+            Variant::Decimal4(VariantDecimal4 { integer, scale })
         }),
+        9 => Variant::Decimal8(VariantDecimal8 { integer: z, scale }),
         10 => Variant::Decimal16(VariantDecimal16 {
             high: z,
-            low: low,
-            scale: scale,
+            low,
+            scale,
         }),
-        11 => date_of(z),
+        11 => i32::try_from(z).map_or(no_scalar(), Variant::Date),
         12 => Variant::TimestampMicros(z),
         13 => Variant::TimestampNtzMicros(z),
-        14 => float_of(low),
+        14 => u32::try_from(low).map_or(no_scalar(), Variant::Float),
         17 => Variant::Time(z),
         18 => Variant::TimestampNanos(z),
         19 => Variant::TimestampNtzNanos(z),
@@ -41,81 +39,22 @@ pub(crate) fn variant_of(code: u8, z: i64, low: u64, scale: u8) -> Variant
     }
 }
 
-fn no_scalar() -> Variant
+pub(crate) fn no_scalar() -> Variant
     ensures { result ≡ no_scalar }
 {
     Variant::Time(86_400_000_000)
 }
 
-fn int8_of(z: i64) -> Variant
-    ensures { result ≡ within 128 z (int8 z) }
+// None is of a code from 4 on.
+#[tactic(auto, unfolding(crate::specs::Scalars::kind_of))]
+pub(crate) fn kind_of(kind: u8) -> Option<VariantBytes>
+    ensures { result ≡ cond (ltb 3 kind) None (Some (kind_of kind)) }
 {
-    if mag(z) < 128 {
-        return Variant::Int8(z as i8);
+    match kind {
+        0 => Some(VariantBytes::Binary),
+        1 => Some(VariantBytes::String),
+        2 => Some(VariantBytes::ShortString),
+        3 => Some(VariantBytes::Text),
+        _ => None,
     }
-    no_scalar()
-}
-
-fn int16_of(z: i64) -> Variant
-    ensures { result ≡ within 32768 z (int16 z) }
-{
-    if mag(z) < 32_768 {
-        return Variant::Int16(z as i16);
-    }
-    no_scalar()
-}
-
-fn int32_of(z: i64) -> Variant
-    ensures { result ≡ within 2147483648 z (int32 z) }
-{
-    if mag(z) < 2_147_483_648 {
-        return Variant::Int32(z as i32);
-    }
-    no_scalar()
-}
-
-fn date_of(z: i64) -> Variant
-    ensures { result ≡ within 2147483648 z (date z) }
-{
-    if mag(z) < 2_147_483_648 {
-        return Variant::Date(z as i32);
-    }
-    no_scalar()
-}
-
-fn decimal4_of(z: i64, scale: u8) -> Variant
-    ensures { result ≡ within 2147483648 z (decimal4 (record { integer = z; scale = scale })) }
-{
-    if mag(z) < 2_147_483_648 {
-        let x = z as i32;
-        return Variant::Decimal4(VariantDecimal4 {
-            integer: x,
-            scale: scale,
-        });
-    }
-    no_scalar()
-}
-
-fn float_of(low: u64) -> Variant
-    ensures { result ≡ cond (ltb low 4294967296) (float low) no_scalar }
-{
-    if low < 4_294_967_296 {
-        return Variant::Float(low as u32);
-    }
-    no_scalar()
-}
-
-pub(crate) fn kind_of(kind: u8) -> VariantBytes
-    ensures { result ≡ kind_of kind }
-{
-    if kind == 0 {
-        return VariantBytes::Binary;
-    }
-    if kind == 1 {
-        return VariantBytes::String;
-    }
-    if kind == 2 {
-        return VariantBytes::ShortString;
-    }
-    VariantBytes::Text
 }

@@ -32,6 +32,7 @@ impl Record for Words<'_> {
         }
     }
 
+    #[inline(always)]
     fn container(&self, i: usize) -> Container {
         if i < 64 {
             container_from(self.0, place_of(i))
@@ -40,12 +41,14 @@ impl Record for Words<'_> {
         }
     }
 
+    #[inline(always)]
     fn elements(&self, i: usize) -> usize {
         if i < 64 { self.0[713 + i] } else { 0 }
     }
 }
 
 // What a call sees of the builder that the words mean, and of the table of marks.
+#[inline(always)]
 pub(crate) fn view_of(words: &[usize; WORDS], marks: &[usize; NUMBERS]) -> View
     ensures { result ≡ view_of (builder_of words.now) marks.now }
 {
@@ -54,6 +57,7 @@ pub(crate) fn view_of(words: &[usize; WORDS], marks: &[usize; NUMBERS]) -> View
 
 // The container whose eleven words start at place p.
 #[tactic(auto, unfolding(crate::specs::Words::container_from))]
+#[inline(always)]
 fn container_from(words: &[usize; WORDS], p: usize) -> Container
     requires { p ≤ 702 }
     ensures { result ≡ container_from words.now p }
@@ -72,6 +76,7 @@ fn container_from(words: &[usize; WORDS], p: usize) -> Container
 }
 
 #[tactic(auto, unfolding(crate::specs::Words::parent_entry_of))]
+#[inline(always)]
 fn parent_entry(tag: usize, id: usize, offset: usize) -> ParentEntry
     ensures { result ≡ parent_entry_of tag id offset }
 {

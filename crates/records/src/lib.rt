@@ -43,6 +43,7 @@ impl Record for Builder {
     }
 }
 
+#[inline(always)]
 pub fn view_of<R: Record>(r: &R, marks: &[usize; NUMBERS]) -> View
     ensures { result ≡ view_of (R.builder r.now) marks.now }
 {
@@ -59,6 +60,7 @@ pub fn view_of<R: Record>(r: &R, marks: &[usize; NUMBERS]) -> View
 }
 
 // Of d open containers the innermost, which is 1 back, or its parent, 2 back.
+#[inline(always)]
 fn container_back<R: Record>(r: &R, d: usize, back: usize) -> Container
     ensures { result ≡ cond (leb back d) (container_at (R.builder r.now).containers (d - back)) no_container }
 {
@@ -69,6 +71,7 @@ fn container_back<R: Record>(r: &R, d: usize, back: usize) -> Container
 }
 
 // Its elements.
+#[inline(always)]
 fn elements_back<R: Record>(r: &R, d: usize, back: usize) -> usize
     ensures { result ≡ cond (leb back d) (elements_at (R.builder r.now).elements (d - back)) 0 }
 {
@@ -80,6 +83,7 @@ fn elements_back<R: Record>(r: &R, d: usize, back: usize) -> usize
 
 // Are at most 64 open, does no starting mark fall from one to the next, does no list with a child open in it count too much, and are the
 // marks that are set in each at most 16, and in order?
+#[inline(always)]
 fn holds<R: Record>(r: &R, marks: &[usize; NUMBERS], d: usize) -> bool
     ensures { result ≡ (chained (R.builder r.now).containers (R.builder r.now).elements d
         && marks_hold (R.builder r.now).containers (R.builder r.now).elements marks.now (R.builder r.now).counts d) }
@@ -87,6 +91,7 @@ fn holds<R: Record>(r: &R, marks: &[usize; NUMBERS], d: usize) -> bool
     d <= 64 && rises(r, d) && marks_hold(r, marks, d)
 }
 
+#[inline(always)]
 fn rises<R: Record>(r: &R, d: usize) -> bool
     requires { d ≤ 64 }
     ensures { result ≡ rising (R.builder r.now).containers (R.builder r.now).elements (d - 1) }
@@ -99,6 +104,7 @@ fn rises<R: Record>(r: &R, d: usize) -> bool
 }
 
 // The step from a container of n elements to the one open in it; one above the data's bytes is that child.
+#[inline(always)]
 fn encloses(k: &Container, n: usize, l: &Container) -> bool
     ensures { result ≡ encloses_of k.now n l.now }
 {
@@ -107,6 +113,7 @@ fn encloses(k: &Container, n: usize, l: &Container) -> bool
 }
 
 // Do the starting marks of the one lie at or below those of the other?
+#[inline(always)]
 fn under(k: &Container, l: &Container) -> bool
     ensures { result ≡ under_of k.now l.now }
 {
@@ -114,6 +121,7 @@ fn under(k: &Container, l: &Container) -> bool
     (k.value <= l.value) & ((k.names <= l.names) & ((k.text <= l.text) & entries))
 }
 
+#[inline(always)]
 fn marks_hold<R: Record>(r: &R, marks: &[usize; NUMBERS], d: usize) -> bool
     requires { d ≤ 64 }
     ensures { result ≡ marks_hold (R.builder r.now).containers (R.builder r.now).elements marks.now

@@ -1,24 +1,18 @@
-use mathlib.Core.Path.{◌∙◌, ap}
-use mathlib.Core.Bool.{cond}
-use lib.Dec.{ltb}
-use Rattle.semantics.specs.Record.{storage_of}
-use Rattle.refusals.specs.Decide.{name_of}
-use Rattle.ffi.proofs.CallLaws.{bytes_appended, bytes_refused}
+use Rattle.std.proofs.Common.{refl}
+use Rattle.semantics.specs.Record.{bytes, fixed}
+use Rattle.refusals.proofs.RowLaws.{own_row}
+use Rattle.ffi.specs.Scalars.{no_scalar}
+use Rattle.ffi.proofs.ScalarLaws.{known_kind, unknown_kind, unknown_row}
 use Rattle.ffi.proofs.calls.variant_append_bytes.Goals as goal
 
-pub returns-then-e-ne0 : goal.returns-then-e-ne0
-returns-then-e-ne0 c =
-    let k = c.kind_of-k.ensures in
+pub returns-in-Some : goal.returns-in-Some
+returns-in-Some c =
     let a = c.args in
-    let f = rw k at c.ill_formed.ensures in
-    bytes_refused a.words.now a.marks.now (storage_of a.value.now a.text.now a.ends.now a.entries.now a.undo.now) (name_of a.named a.name.now) a.kind a.bytes.now
-    (c.row-n.ensures ∙ ap (cond (ltb 3 a.kind) 7) (c.row.ensures ∙ ap (λ t. cond t 8 0) f)) (rw k at c.bytes_size-size.ensures) c.enter-e.ensures c.if-e-ne0.true
+    rw (known_kind a.kind a.bytes.now c.kind_of.ensures c.in-Some.is)
+    (c.append.ensures (bytes c.in-Some.kind a.bytes.now) (own_row 8 c.row-own.ensures c.ill_formed.ensures) (λ z. refl))
 
-pub returns : goal.returns
-returns c =
-    let k = c.kind_of-k.ensures in
+pub returns-in-None : goal.returns-in-None
+returns-in-None c =
     let a = c.args in
-    let f = rw k at c.ill_formed.ensures in
-    bytes_appended a.words.now a.marks.now (storage_of a.value.now a.text.now a.ends.now a.entries.now a.undo.now) (name_of a.named a.name.now) a.kind a.bytes.now
-    (c.row-n.ensures ∙ ap (cond (ltb 3 a.kind) 7) (c.row.ensures ∙ ap (λ t. cond t 8 0) f)) (rw k at c.bytes_size-size.ensures) c.enter-e.ensures
-    c.if-e-ne0.false c.note.ensures.1 c.note.ensures.2 (rw (k, c.counts-c.ensures) at c.write_bytes.ensures)
+    rw (unknown_kind a.kind a.bytes.now c.kind_of.ensures c.in-None.is)
+    (c.append-in-None.ensures (fixed no_scalar) unknown_row (λ z. rw c.no_scalar.ensures refl))

@@ -1,19 +1,11 @@
-use Rattle.semantics.specs.Record.{uuid, storage_of}
-use Rattle.refusals.specs.Decide.{name_of}
+use Rattle.std.proofs.Common.{ap}
+use Rattle.value.specs.Scalar.{scalar_bytes, stored_uuid}
+use Rattle.semantics.specs.Record.{uuid}
 use Rattle.refusals.proofs.RowLaws.{own_none}
-use Rattle.actions.proofs.AppendLaws.{uuid_size, writes_uuid}
-use Rattle.ffi.proofs.CallLaws.{does_appended, does_refused}
+use Rattle.ffi.proofs.ScalarLaws.{sixteen_whole}
 use Rattle.ffi.proofs.calls.variant_append_uuid.Goals as goal
-
-pub returns-then-e-ne0 : goal.returns-then-e-ne0
-returns-then-e-ne0 c =
-    let a = c.args in
-    does_refused a.words.now a.marks.now (storage_of a.value.now a.text.now a.ends.now a.entries.now a.undo.now) (name_of a.named a.name.now) (uuid a.uuid.now) {own = 0} {size = 17} own_none
-    (λ _. uuid_size a.uuid.now c.told-uuid) c.enter-e.ensures c.if-e-ne0.true
 
 pub returns : goal.returns
 returns c =
-    let a = c.args in
-    does_appended a.words.now a.marks.now (storage_of a.value.now a.text.now a.ends.now a.entries.now a.undo.now) (name_of a.named a.name.now) (uuid a.uuid.now) {own = 0} {size = 17} own_none
-    (λ _. uuid_size a.uuid.now c.told-uuid) c.enter-e.ensures c.if-e-ne0.false c.note.ensures.1 c.note.ensures.2
-    (λ _. writes_uuid _ a.uuid.now a.value.now c.told-uuid (rw c.counts-c.ensures at c.write_uuid.ensures))
+    let u = c.args.uuid.now in
+    c.append.ensures (uuid u) own_none (λ z. ap (λ bs. scalar_bytes (stored_uuid bs)) (sixteen_whole u c.told-uuid))

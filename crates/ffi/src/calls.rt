@@ -237,7 +237,7 @@ fn append<S: Stored>(
         return e.number;
     }
     note(e, entries, undo);
-    x.write(value, c.value);
+    let _ = x.write(value, c.value);
     0
 }
 

@@ -3,7 +3,7 @@ ghost use Rattle.std.specs.Prelude.{◌≡◌, List, ℕ, length};
 ghost use Rattle.encoding.specs.Slices.{Writes};
 ghost use Rattle.value.specs.Scalar.{scalar_bytes, stored_bytes, stored_uuid, stored_variant};
 
-use encoding::slices::Placed;
+use encoding::slices::NoRoom;
 use value::scalar::{bytes_size, variant_size, write_bytes, write_uuid, write_variant};
 use value::variant::{Variant, VariantBytes};
 
@@ -14,7 +14,7 @@ pub(crate) trait Stored {
         ensures { result ≡ length (stored self.now) };
 
     // Its bytes at a place of `value`, if they fit there.
-    fn write(&self, value: &mut [u8], at: usize) -> Placed
+    fn write(&self, value: &mut [u8], at: usize) -> Result<(), NoRoom>
         ensures { Writes at (stored self.now) value.old result value.new };
 }
 
@@ -25,7 +25,7 @@ impl Stored for Variant {
         variant_size(*self)
     }
 
-    fn write(&self, value: &mut [u8], at: usize) -> Placed {
+    fn write(&self, value: &mut [u8], at: usize) -> Result<(), NoRoom> {
         write_variant(value, at, *self)
     }
 }
@@ -44,7 +44,7 @@ impl Stored for OfKind<'_> {
         bytes_size(self.kind, self.bytes)
     }
 
-    fn write(&self, value: &mut [u8], at: usize) -> Placed {
+    fn write(&self, value: &mut [u8], at: usize) -> Result<(), NoRoom> {
         write_bytes(value, at, self.kind, self.bytes)
     }
 }
@@ -56,7 +56,7 @@ impl Stored for [u8; 16] {
         17
     }
 
-    fn write(&self, value: &mut [u8], at: usize) -> Placed {
+    fn write(&self, value: &mut [u8], at: usize) -> Result<(), NoRoom> {
         write_uuid(value, at, *self)
     }
 }

@@ -1,15 +1,9 @@
 -- The first byte, and two numbers behind it.
 use native.Mathlib.Omega.{arith}
-use lib.ListN.{length-set}
 use Rattle.encoding.specs.Packed.{le}
 use Rattle.encoding.proofs.PackedLaws.{length_le}
 use Rattle.encoding.proofs.SliceLaws.{write_first}
 use Rattle.metadata.proofs.dictionary.write_front.Goals as goal
-use Rattle.metadata.proofs.dictionary.write_front.Goals.{Start}
-
-pub shape_of-out : goal.shape_of-out
-shape_of-out c =
-    omega (arith, length-set c.args.out.now 0 c.first_byte.result)
 
 pub returns : goal.returns
 returns c =
@@ -17,5 +11,6 @@ returns c =
     let w = a.width in
     let p = length_le w a.n in
     let q = length_le w 0 in
+    let r = c.requires in
     rw (← c.first_byte.ensures)
-    (write_first 0 _ c.first_byte.result a.out.now (le w a.n) (le w 0) c.write_packed.ensures c.write_packed-2.ensures (omega arith) (omega (arith, (goal.at.returns c).Start)))
+    (write_first 0 _ c.first_byte.result a.out.now (le w a.n) (le w 0) c.write_packed.ensures c.write_packed-2.ensures (omega arith) (omega arith))

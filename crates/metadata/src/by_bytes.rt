@@ -1,0 +1,17 @@
+// Names by their bytes, and the part of a text that lies between two places.
+ghost use Rattle.std.specs.Prelude.{◌≡◌, ◌-◌, drop, take};
+ghost use Rattle.metadata.specs.Names.{same as same_of};
+
+// Are the two names one? The last bytes are compared first: names that begin alike, as those of a numbered row, mostly differ there.
+pub fn same(a: &[u8], b: &[u8]) -> bool
+    ensures { result ≡ same_of a.now b.now }
+{
+    a.last() == b.last() && a == b
+}
+
+// What lies between two places, as far as there is text.
+pub fn part(text: &[u8], start: usize, end: usize) -> &[u8]
+    ensures { result.now ≡ take (end - start) (drop start text.now) }
+{
+    text.get(start..end.min(text.len())).unwrap_or(&[])
+}

@@ -5,7 +5,8 @@ ghost use Rattle.packed_decimal.specs.PackedDecimal.{packed_variant};
 ghost use Rattle.packed_decimal.specs.Calls.{packed_rows};
 ghost use Rattle.actions.specs.Actions.{own_of};
 
-use calendar::civil::{Civil, CivilVariant, variant_of};
+use calendar::civil::{Civil, variant_of};
+use calendar::date::OutOfCalendar;
 use packed_decimal::read::PackedVariant;
 use value::variant::Variant;
 
@@ -19,13 +20,9 @@ pub struct Own {
 pub fn civil_own(x: Civil) -> Own
     ensures { result ≡ own_of (civil_rows x) (civil_variant x) }
 {
-    let s = variant_of(x);
-    match s {
-        CivilVariant::Stored(v) => Own {
-            variant: v,
-            number: 0,
-        },
-        CivilVariant::OutOfCalendar => Own {
+    match variant_of(x) {
+        Ok(variant) => Own { variant, number: 0 },
+        Err(OutOfCalendar) => Own {
             variant: Variant::Null,
             number: 17,
         },

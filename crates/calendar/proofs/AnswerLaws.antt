@@ -1,13 +1,17 @@
 -- Answers: from a row to the answer, and back.
 use mathlib.Core.Path.{◌≡◌, refl, sym, ◌∙◌, ap}
-use mathlib.Core.Bool.{Bool, true, false, cond}
+use mathlib.Core.Bool.{Bool, true, false, cond, false≢true}
 use mathlib.Core.List.{List, [], ◌∷◌}
 use mathlib.Core.Option.{some}
 use Prim.Native.Nat.{ℕ}
 use lib.Dec.{eqb}
+use native.Mathlib.Omega.{arith}
 use borrow.Author.Tests.{eqb-true}
 use Rattle.encoding.specs.Rows.{Row, row, first}
-use Rattle.calendar.specs.Answers.{answer, done, refused}
+use Rattle.std.specs.Prelude.{Result, Ok, Err}
+use Rattle.std.specs.Result.{IsErr}
+use Rattle.calendar.specs.declared.date.OutOfCalendar.{OutOfCalendar}
+use Rattle.calendar.specs.Answers.{answer, done, refused, told}
 
 -- ---- by its one row
 
@@ -18,6 +22,16 @@ answer_done x e = rw e
 pub answer_refused : {A : Type 0} (x : A) {t : Bool} → t ≡ true → answer (row 17 t ∷ []) x ≡ refused 17
 unfolding answer first
 answer_refused x e = rw e
+
+-- ---- of a result
+
+pub told_value : {A : Type 0} {v : A} (x : A) {t : Bool} → v ≡ x → t ≡ false → done v ≡ answer (row 17 t ∷ []) x
+told_value x e q = ap done e ∙ sym (answer_done x q)
+
+-- an error that is handed on
+pub told_exit : {A : Type 0} (r : Result A OutOfCalendar) (x : A) {t : Bool} → IsErr r → t ≡ true → told r ≡ answer (row 17 t ∷ []) x
+told_exit (Ok v) x h q = absurd (false≢true h)
+told_exit (Err e) x h q = sym (answer_refused x q)
 
 -- ---- what an answer says, for the crates above
 
@@ -40,3 +54,16 @@ told_done v rows x e =
     let z : first rows ≡ 0 = sym (ap (λ t. t.number) e ∙ answer_number_lem rows x) in
     let p : some v ≡ some x = ap (λ t. t.value) (rw z at e) in
     (z, cc)
+
+-- ---- and what follows of the same row's answer with another value
+
+pub told_as : {A B : Type 0} (f : A → B) (v x : A) (t : Bool) → done v ≡ answer (row 17 t ∷ []) x → done (f v) ≡ answer (row 17 t ∷ []) (f x)
+unfolding first
+told_as f v x false e = told_value (f x) (ap f (told_done v (row 17 false ∷ []) x e).1) refl
+told_as f v x true e = absurd (omega (arith, (told_done v (row 17 true ∷ []) x e).0))
+
+pub exit_as : {A B : Type 0} (r : Result B OutOfCalendar) (y : B) (x : A) (t : Bool) → IsErr r → refused 17 ≡ answer (row 17 t ∷ []) x
+    → told r ≡ answer (row 17 t ∷ []) y
+unfolding first
+exit_as r y x false h e = absurd (omega (arith, told_refused_lem 17 (row 17 false ∷ []) x e))
+exit_as r y x true h e = told_exit r y h refl

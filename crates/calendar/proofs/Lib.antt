@@ -6,3 +6,4 @@ pub mod NumberLaws
 pub mod CalendarLaws
 pub mod AnswerLaws
 pub mod CodeLaws
+pub mod RangeLaws

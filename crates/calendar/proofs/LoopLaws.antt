@@ -57,6 +57,13 @@ reached_again l n month rest h r le =
 pub reached_end : (l : Bool) (n month rest : ℕ) → Reached l n month rest → rest < month_length l month → MonthOf l n month rest
 reached_end l n month rest r h = record { from_one = r.from_one; to_twelve = r.to_twelve; in_month = h; sum = r.sum }
 
+-- the last month holds what eleven leave
+pub reached_last : (l : Bool) (n month rest : ℕ) → n < year_length l → Reached l n month rest → 12 ≤ month → MonthOf l n 12 rest
+reached_last l n month rest h r u =
+    let e : month ≡ 12 = omega (arith, r.to_twelve) in
+    let q : Reached l n 12 rest = rw e at r in
+    reached_end l n 12 rest q (omega (arith, q.sum, twelve l, months_last l 12 (omega arith)))
+
 -- ---- the guess is right, or one too low
 
 begins : (n : ℕ) → years (n * 400 / 146097) ≤ n

@@ -1,80 +1,81 @@
 // Dates to day numbers, and back. 1970-01-01 is day 0.
-ghost use Rattle.std.specs.Prelude.{◌≡◌, true, ◌<◌};
+ghost use Rattle.std.specs.Prelude.{◌≡◌, false, true, ◌<◌, MatchResult};
 ghost use Rattle.calendar.specs.Gregorian.{date_at, date_of_day, day_number, days_before, in_calendar};
-ghost use Rattle.calendar.specs.Gregorian.{within as within_of};
-ghost use Rattle.calendar.specs.Answers.{answer, date_rows, date_told, day_rows, days_told};
+ghost use Rattle.calendar.specs.Answers.{answer, date_rows, day_rows, told};
 
 use crate::gregorian::{is_leap, month_length, month_of, months_before, years_before, years_to};
 use encoding::signed::mag;
 
 // Any three numbers; `days_of` says whether they are a date.
-#[derive(Clone, Copy)]
+#[derive(Clone, Copy, PartialEq, Eq, PartialOrd, Ord, Debug)]
 pub struct Date {
     pub year: i64,
     pub month: i64,
     pub day: i64,
 }
 
+// A date of the calendar.
 #[derive(Clone, Copy)]
-pub enum DaysOf {
-    Days(i32),
-    OutOfCalendar,
+pub(crate) struct CalendarDate {
+    date: Date,
+    ghost known: { in_calendar date ≡ true },
 }
 
-#[derive(Clone, Copy)]
-pub enum DateOf {
-    Date(Date),
-    OutOfCalendar,
-}
+// Number 17.
+#[derive(Clone, Copy, PartialEq, Eq, Debug)]
+pub struct OutOfCalendar;
 
 // The day number of a date.
-pub fn days_of(date: Date) -> DaysOf
-    ensures { days_told result ≡ answer (date_rows date) (day_number date) }
+pub fn days_of(date: Date) -> Result<i32, OutOfCalendar>
+    ensures { told result ≡ answer (date_rows date) (day_number date) }
 {
-    if in_calendar(date) {
-        return DaysOf::Days(day_number(date));
-    }
-    DaysOf::OutOfCalendar
+    Ok(date.in_calendar()?.day_number())
 }
 
 // The date of a day number.
-pub fn date_of(days: i64) -> DateOf
-    ensures { date_told result ≡ answer (day_rows days) (date_of_day days) }
+pub fn date_of(days: i64) -> Result<Date, OutOfCalendar>
+    ensures { told result ≡ answer (day_rows days) (date_of_day days) }
 {
-    if within(-719_162, days, 2_932_896) {
-        return DateOf::Date(date_at((days + 719_162) as usize));
+    if (-719_162..=2_932_896).contains(&days) {
+        Ok(date_at((days + 719_162) as usize))
+    } else {
+        Err(OutOfCalendar)
     }
-    DateOf::OutOfCalendar
 }
 
-pub(crate) fn within(least: i64, x: i64, most: i64) -> bool
-    ensures { result ≡ within_of least x most }
-{
-    (least <= x) & (x <= most)
+impl Date {
+    pub(crate) fn in_calendar(self) -> Result<CalendarDate, OutOfCalendar>
+        ensures { MatchResult result (λ d. d.date ≡ self) (λ _. in_calendar self ≡ false) }
+    {
+        let last = month_length(is_leap(mag(self.year)), mag(self.month));
+        if (1..=9999).contains(&self.year)
+            && (1..=12).contains(&self.month)
+            && (1..=last as i64).contains(&self.day)
+        {
+            Ok(CalendarDate { date: self })
+        } else {
+            Err(OutOfCalendar)
+        }
+    }
 }
 
-pub(crate) fn in_calendar(date: Date) -> bool
-    ensures { result ≡ in_calendar date }
-{
-    let last = month_length(is_leap(mag(date.year)), mag(date.month));
-    within(1, date.year, 9999) & (within(1, date.month, 12) & within(1, date.day, last as i64))
-}
+impl CalendarDate {
+    pub(crate) fn day_number(self) -> i32
+        ensures { result ≡ day_number self.date }
+    {
+        self.days_before() as i32 - 719_162
+    }
 
-pub(crate) fn day_number(date: Date) -> i32
-    requires { in_calendar date ≡ true }
-    ensures { result ≡ day_number date }
-{
-    days_before(date) as i32 - 719_162
-}
-
-pub(crate) fn days_before(date: Date) -> usize
-    requires { in_calendar date ≡ true }
-    ensures { result ≡ days_before date }
-{
-    let year = mag(date.year);
-    let before = years_to(year - 1);
-    let earlier = months_before(is_leap(year), mag(date.month));
-    before + (earlier + (mag(date.day) - 1))
+    // Days since 0001-01-01.
+    pub(crate) fn days_before(self) -> usize
+        ensures { result ≡ days_before self.date }
+    {
+        let date = self.date;
+        let year = mag(date.year);
+        let before = years_to(year - 1);
+        let earlier = months_before(is_leap(year), mag(date.month));
+        before + (earlier + (mag(date.day) - 1))
+    }
 }
 
 // The date of a day counted from 0001-01-01.

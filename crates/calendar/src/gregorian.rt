@@ -1,35 +1,32 @@
 // The calendar's own numbers: leap years, months, days counted from 0001-01-01. No loop goes over years.
-ghost use Rattle.std.specs.Prelude.{◌≡◌, cond, ◌-◌, ◌≤◌, ◌<◌};
+ghost use Rattle.std.specs.Prelude.{◌≡◌, ◌-◌, ◌≤◌, ◌<◌};
 ghost use Rattle.calendar.specs.Gregorian.{leap, month_length, months, year_length, years};
 ghost use Rattle.calendar.specs.Gregorian.{MonthOf, YearOf};
 
 // A month, and a day of it from 0 on.
-#[derive(Clone, Copy)]
+#[derive(Clone, Copy, PartialEq, Eq, PartialOrd, Ord, Debug)]
 pub(crate) struct MonthDay {
     pub month: usize,
     pub day: usize,
 }
 
+#[tactic(auto, unfolding(crate::specs::Gregorian::leap))]
 pub(crate) fn is_leap(year: usize) -> bool
     ensures { result ≡ leap year }
 {
-    (year % 4 == 0) & ((year % 100 != 0) | (year % 400 == 0))
+    year % 4 == 0 && (year % 100 != 0 || year % 400 == 0)
 }
 
-fn pick(t: bool, a: usize, b: usize) -> usize
-    ensures { result ≡ cond t a b }
-{
-    if t {
-        return a;
-    }
-    b
-}
-
+#[tactic(auto, unfolding(crate::specs::Gregorian::month_length))]
 pub(crate) fn month_length(long: bool, month: usize) -> usize
     ensures { result ≡ month_length long month }
 {
-    let short = (month == 4) | ((month == 6) | ((month == 9) | (month == 11)));
-    pick(month == 2, pick(long, 29, 28), pick(short, 30, 31))
+    match month {
+        2 if long => 29,
+        2 => 28,
+        4 | 6 | 9 | 11 => 30,
+        _ => 31,
+    }
 }
 
 // Days of the years 1 to k.
@@ -45,11 +42,9 @@ pub(crate) fn months_before(long: bool, month: usize) -> usize
     requires { (0 < month) × (month < 13) }
     ensures { result ≡ months long (month - 1) }
 {
-    let mut sum: usize = 0;
-    let mut m: usize = 1;
-    while m < month {
+    let mut sum = 0;
+    for m in 1..month {
         sum += month_length(long, m);
-        m += 1;
     }
     sum
 }
@@ -61,9 +56,10 @@ pub(crate) fn years_before(n: usize) -> usize
 {
     let guess = n * 400 / 146_097;
     if years_to(guess + 1) <= n {
-        return guess + 1;
+        guess + 1
+    } else {
+        guess
     }
-    guess
 }
 
 // The month and the day of day n of a year.
@@ -71,11 +67,16 @@ pub(crate) fn month_of(long: bool, n: usize) -> MonthDay
     requires { n < year_length long }
     ensures { MonthOf long n result.month result.day }
 {
-    let mut month: usize = 1;
     let mut rest = n;
-    while month_length(long, month) <= rest {
-        rest -= month_length(long, month);
-        month += 1;
+    for month in 1..12 {
+        let length = month_length(long, month);
+        if rest < length {
+            return MonthDay { month, day: rest };
+        }
+        rest -= length;
     }
-    MonthDay { month, day: rest }
+    MonthDay {
+        month: 12,
+        day: rest,
+    }
 }

@@ -5,7 +5,7 @@ ghost use Rattle.ffi.specs.Dates.{TellsDate, TellsDays, civil_by, civil_of, date
 
 use actions::{Own, civil_own};
 use calendar::civil::Civil;
-use calendar::date::{Date, DateOf, DaysOf, date_of, days_of};
+use calendar::date::{Date, OutOfCalendar, date_of, days_of};
 use value::variant::Variant;
 
 // The day number of a date, into `days`; 17 where the date is not in the calendar, and `days` is then as it was.
@@ -13,13 +13,12 @@ use value::variant::Variant;
 pub extern "C" fn variant_days_of(year: i64, month: i64, day: i64, days: &mut i32) -> u8
     ensures { TellsDays result (date_of year month day) days.old days.new }
 {
-    let d = days_of(Date { year, month, day });
-    match d {
-        DaysOf::Days(n) => {
+    match days_of(Date { year, month, day }) {
+        Ok(n) => {
             *days = n;
             0
         }
-        DaysOf::OutOfCalendar => 17,
+        Err(OutOfCalendar) => 17,
     }
 }
 
@@ -29,19 +28,13 @@ pub extern "C" fn variant_date_of(days: i64, year: &mut i64, month: &mut i64, da
     ensures { TellsDate result days (date_of year.old month.old day.old)
         (date_of year.new month.new day.new) }
 {
-    let d = date_of(days);
-    match d {
-        DateOf::Date(date) => {
-            let y = date.year;
-            let m = date.month;
-            let d = date.day;
-            *year = y;
-            *month = m;
-            *day = d;
-            0
-        }
-        DateOf::OutOfCalendar => 17,
-    }
+    let Ok(date) = date_of(days) else {
+        return 17;
+    };
+    *year = date.year;
+    *month = date.month;
+    *day = date.day;
+    0
 }
 
 pub(crate) fn civil_by(code: u8, year: i64, month: i64, day: i64, time: i64) -> Own

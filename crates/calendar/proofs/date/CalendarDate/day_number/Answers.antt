@@ -7,11 +7,11 @@ use mir.Syntax.{w32}
 use Rattle.calendar.specs.Gregorian.{day_number}
 use Rattle.calendar.proofs.CalendarLaws.{days_few}
 use Rattle.calendar.proofs.CodeLaws.{Less, less}
-use Rattle.calendar.proofs.date.day_number.Goals as goal
-use Rattle.calendar.proofs.date.day_number.Goals.{After-days_before}
+use Rattle.calendar.proofs.date.CalendarDate.day_number.Goals as goal
+use Rattle.calendar.proofs.date.CalendarDate.day_number.Goals.{After-days_before}
 
 few : (c : After-days_before) → c.days_before.result < 3652059
-few c = omega (arith, c.days_before.ensures, days_few c.args.date c.requires)
+few c = omega (arith, c.days_before.ensures, days_few c.args.self.date c.args.self.known)
 
 number : (c : After-days_before) → Less w32 c.days_before.result 719161
 number c = less w32 c.days_before.result 719161 (omega (arith, few c)) (omega arith)

@@ -12,7 +12,7 @@ use Rattle.calendar.proofs.DateLaws.{Tested, tested}
 use Rattle.calendar.proofs.CalendarLaws.{days_few}
 use Rattle.calendar.proofs.CountLaws.{month_size}
 use Rattle.calendar.proofs.CodeLaws.{given}
-use Rattle.calendar.proofs.date.days_before.Goals as goal
+use Rattle.calendar.proofs.date.CalendarDate.days_before.Goals as goal
 
 year : {r : ℕ} (d : Date) (e : in_calendar d ≡ true) → r ≡ mag (to_z w64 (of_z w64 d.year)) → r ≡ (tested d e).year
 year d e h =
@@ -31,31 +31,31 @@ day d e h =
 
 pub overflow_sub-year : goal.overflow_sub-year
 overflow_sub-year c =
-    let d = c.args.date in
-    omega (arith, year d c.requires c.mag-year.ensures, (tested d c.requires).valid.y1)
+    let d = c.args.self.date in
+    omega (arith, year d c.args.self.known c.mag-year.ensures, (tested d c.args.self.known).valid.y1)
 
 pub years_to-before-requires : goal.years_to-before-requires
 years_to-before-requires c =
-    let d = c.args.date in
-    omega (arith, year d c.requires c.mag-year.ensures, (tested d c.requires).y9999)
+    let d = c.args.self.date in
+    omega (arith, year d c.args.self.known c.mag-year.ensures, (tested d c.args.self.known).y9999)
 
 pub months_before-earlier-requires : goal.months_before-earlier-requires
 months_before-earlier-requires c =
-    let d = c.args.date in
-    let e = month d c.requires c.mag.ensures in
-    let v = (tested d c.requires).valid in
+    let d = c.args.self.date in
+    let e = month d c.args.self.known c.mag.ensures in
+    let v = (tested d c.args.self.known).valid in
     (omega (arith, e, v.m1), omega (arith, e, v.m12))
 
 pub overflow_sub-result : goal.overflow_sub-result
 overflow_sub-result c =
-    let d = c.args.date in
-    omega (arith, day d c.requires c.mag-2.ensures, (tested d c.requires).valid.d1)
+    let d = c.args.self.date in
+    omega (arith, day d c.args.self.known c.mag-2.ensures, (tested d c.args.self.known).valid.d1)
 
 pub returns : goal.returns
 unfolding days_before
 returns c =
-    let d = c.args.date in
-    let e = c.requires in
+    let d = c.args.self.date in
+    let e = c.args.self.known in
     rw (
       c.years_to-before.ensures,
       c.months_before-earlier.ensures,
@@ -68,8 +68,8 @@ returns c =
 
 pub overflow_add-result : goal.overflow_add-result
 overflow_add-result c =
-    omega (arith, returns c, days_few c.args.date c.requires)
+    omega (arith, returns c, days_few c.args.self.date c.args.self.known)
 
 pub overflow_add-result-2 : goal.overflow_add-result-2
 overflow_add-result-2 c =
-    omega (arith, returns c, days_few c.args.date c.requires)
+    omega (arith, returns c, days_few c.args.self.date c.args.self.known)

@@ -16,7 +16,13 @@ use measure::whole_values;
 
 // The header put before the data, which lies from `start` up to `used` and is `count` values. All is decided before a byte is moved:
 // nothing is written where the data is not so, or the header does not fit after the used bytes.
-pub fn close_list(start: usize, used: usize, count: usize, floor: usize, value: &mut [u8]) -> Result<usize, CloseError>
+pub fn close_list(
+    start: usize,
+    used: usize,
+    count: usize,
+    floor: usize,
+    value: &mut [u8],
+) -> Result<usize, CloseError>
     ensures { ClosesList start used count floor value.old result value.new }
 {
     if damaged(start, used, count, value) {

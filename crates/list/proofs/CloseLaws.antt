@@ -1,17 +1,17 @@
 -- A list's header over the starts that its data gives, and what is known of data that was tested.
 use mathlib.Core.Path.{◌≡◌, refl, sym, ◌∙◌, ap}
-use mathlib.Core.Bool.{Bool, true, false, ◌&&◌}
-use mathlib.Core.List.{List, [], ◌∷◌, ◌++◌, append_assoc}
+use mathlib.Core.Bool.{Bool, true, false}
+use mathlib.Core.List.{List, [], ◌∷◌, ◌++◌, append_assoc, append-nil}
 use Prim.Native.Nat.{ℕ, ◌+◌, ◌-◌, ◌*◌, ◌≤◌}
 use native.Mathlib.Omega.{arith}
-use lib.Dec.{leb}
-use lib.ListN.{set, length, length-append}
-use borrow.Author.Tests.{leb-true, le-leb, not-false}
+use lib.Seq.{drop-drop}
+use lib.ListN.{set, length, take, drop, length-append, drop_of_length-le}
+use borrow.Author.Tests.{leb-true, not-false}
 use Rattle.encoding.specs.Packed.{le, les}
-use Rattle.encoding.specs.Slices.{Placed, counted, fits, write, shift, Shifts}
+use Rattle.encoding.specs.Slices.{counted, fits, write, shift}
 use Rattle.encoding.specs.Width.{width_at}
 use Rattle.encoding.proofs.PackedLaws.{length_le, length_les}
-use Rattle.encoding.proofs.SliceLaws.{write_one, fits_counted, left_done}
+use Rattle.encoding.proofs.SliceLaws.{write_one, fits_counted}
 use Rattle.container.specs.Layout.{count_size, large, list_byte, list_header, list_header_at, list_header_size}
 use Rattle.container.specs.Close.{fronted}
 use Rattle.container.proofs.LayoutLaws.{length_list}
@@ -20,44 +20,44 @@ use Rattle.measure.specs.Measure.{data_in, starts_in}
 use Rattle.measure.proofs.DataLaws.{length_data}
 use Rattle.measure.proofs.WalkLaws.{length_starts, whole_count}
 use Rattle.list.specs.Close.{damaged, list_front}
-use Rattle.list.proofs.StartLaws.{data_kept, data_shifted}
+use Rattle.list.proofs.StartLaws.{cut_shifted, data_joined, data_shifted, length_shift}
 
 -- ---- the header, part by part
-
--- where the data begins
-pub header_end : (floor at w count n size : ℕ) → w ≡ width_at floor size → count ≡ count_size (large n) → at + 1 + count + w * n + w ≡ at + list_header_size floor n size
-header_end floor at w count n size x y = rw (← x, ← y) (omega (arith, one_more_lem w n))
-
--- a count has one to four bytes
-pub count_some : {count : ℕ} (big : Bool) → count ≡ count_size big → (1 ≤ count) × (count ≤ 4)
-count_some true e = (omega arith, omega arith)
-count_some false e = (omega arith, omega arith)
 
 header_parts : (floor w count first size : ℕ) (os : List ℕ) → w ≡ width_at floor size → count ≡ count_size (large (length os)) → first ≡ list_byte w (large (length os))
     → ((first ∷ le count (length os)) ++ les w os) ++ le w size ≡ list_header floor os size
 unfolding list_header list_header_at
 header_parts floor w count first size os x y z = rw (z, x, y) (ap (λ c. list_byte (width_at floor size) (large (length os)) ∷ c) (append_assoc (le (count_size (large (length os))) (length os)) (les (width_at floor size) os) (le (width_at floor size) size)))
 
-pub header_written : (floor at w count first n size : ℕ) (l : List ℕ) {m m' m'' : List ℕ} → w ≡ width_at floor size → count ≡ count_size (large n) → first ≡ list_byte w (large n)
-    → at + list_header_size floor n size + size ≤ counted (length l) → m ≡ write (at + 1) (le count n) (set l at first)
-    → m' ≡ write (at + 1 + count) (les w (starts_in n 0 (data_in (at + 1 + count + w * n + w) (at + 1 + count + w * n + w + size) m))) m
-    → m'' ≡ write (at + 1 + count + w * n) (le w size) m'
-    → m'' ≡ write at (list_header floor (starts_in n 0 (data_in (at + list_header_size floor n size) (at + list_header_size floor n size + size) l)) size) l
-header_written floor at w count first n size l {m = m} x y z h e f g =
-    let from = at + list_header_size floor n size in
-    let p = header_end floor at w count n size x y in
+write_is : (at : ℕ) (bs l : List ℕ) → take at l ++ (bs ++ drop (at + length bs) l) ≡ write at bs l
+unfolding write
+write_is at bs l = refl
+
+-- all bytes written over
+write_all : (bs l : List ℕ) → length bs ≡ length l → write 0 bs l ≡ bs
+unfolding write
+write_all bs l e = rw (drop_of_length-le l {i = 0 + length bs} (omega arith)) (append-nil bs)
+
+pub header_written : (floor w count first n size : ℕ) (l values : List ℕ) {m m' m'' : List ℕ} → w ≡ width_at floor size → count ≡ count_size (large n) → first ≡ list_byte (width_at floor size) (large n)
+    → length l ≡ 1 + count + w * n + w → m ≡ write 1 (le count n) (set l 0 first) → m' ≡ write (1 + count) (les w (starts_in n 0 values)) m
+    → m'' ≡ write (1 + count + w * n) (le w size) m' → m'' ≡ list_header floor (starts_in n 0 values) size
+header_written floor w count first n size l values x y z h e f g =
     let a = first ∷ le count n in
     let la = length_le count n in
-    let s = write_next at (at + 1) l (first ∷ []) (le count n) (write_one l at first (omega arith)) e refl (omega arith) in
-    let d : data_in from (from + size) m ≡ data_in from (from + size) l = ap (data_in from (from + size)) s ∙ data_kept at from (from + size) a l (omega arith) (omega arith) (omega arith) in
-    let os = starts_in n 0 (data_in from (from + size) l) in
-    let k : length os ≡ n = length_starts n 0 (data_in from (from + size) l) in
+    let s = write_next 0 1 l (first ∷ []) (le count n) (write_one l 0 first (omega arith)) e refl (omega arith) in
+    let os = starts_in n 0 values in
+    let k : length os ≡ n = length_starts n 0 values in
     let lb : length (les w os) ≡ w * n = length_les w os ∙ ap (λ i. w * i) k in
     let lc = length_le w size in
-    let t = write_next at (at + 1 + count) l a (les w os) s (rw (p, d) at f) (omega arith) (omega arith) in
+    let t = write_next 0 (1 + count) l a (les w os) s f (omega arith) (omega arith) in
     let ab = length-append a (les w os) in
-    let q : (a ++ les w os) ++ le w size ≡ list_header floor os size = rw k at (header_parts floor w count first size os x (rw k y) (rw k z)) in
-    write_next at (at + 1 + count + w * n) l (a ++ les w os) (le w size) t g (omega arith) (omega arith) ∙ ap (λ c. write at c l) q
+    let abc = length-append (a ++ les w os) (le w size) in
+    let q : (a ++ les w os) ++ le w size ≡ list_header floor os size = rw k at (header_parts floor w count first size os x (rw k y) (rw (k, x) z)) in
+    write_next 0 (1 + count + w * n) l (a ++ les w os) (le w size) t g (omega arith) (omega arith) ∙ (write_all ((a ++ les w os) ++ le w size) l (omega arith) ∙ q)
+
+-- as the code counts its bytes
+pub header_length : (floor w count n size : ℕ) → w ≡ width_at floor size → count ≡ count_size (large n) → 1 + count + w * n + w ≡ list_header_size floor n size
+header_length floor w count n size x y = rw (← x, ← y) (omega (arith, one_more_lem w n))
 
 -- ---- data that was tested
 
@@ -81,15 +81,20 @@ front_size start used count floor value =
     let bytes = data_in start used value in
     sym (length_list floor (starts_in count 0 bytes) (used - start) ∙ ap (λ n. list_header_size floor n (used - start)) (length_starts count 0 bytes))
 
--- room made, and the header of the data that was moved written over it
-pub fronts_list : (start used count floor size : ℕ) (value : List ℕ) {t : Bool} {r : Placed} {m after : List ℕ} → start ≤ used → size ≡ list_header_size floor count (used - start)
-    → t ≡ fits used size (length value) → t ≡ true → Shifts start used size value r m
-    → after ≡ write start (list_header floor (starts_in count 0 (data_in (start + list_header_size floor count (used - start)) (start + list_header_size floor count (used - start) + (used - start)) m)) (used - start)) m
-    → after ≡ fronted start used (list_front start used count floor value) value
-fronts_list start used count floor size value {m = m} o e p h s w =
-    let g = fits_counted used size (length value) p h in
-    let d : (leb start used && fits used size (length value)) ≡ true = rw (le-leb start used o, ← p, h) in
-    let k : m ≡ shift start used size value = left_done s d in
-    let q : start + size + (used - start) ≡ used + size = omega arith in
-    let f : data_in (start + size) (start + size + (used - start)) m ≡ data_in start used value = rw (q, k) (data_shifted start used size value o (omega arith)) in
-    fronts start used (list_front start used count floor value) value size o (e ∙ front_size start used count floor value) p h s (rw (← e, f) at w)
+-- room made, and the header of the data that was moved written into it, the data behind it
+pub fronts_list : (start used count floor h : ℕ) (value m bytes : List ℕ) {t : Bool} → start ≤ used → h ≡ list_header_size floor count (used - start)
+    → t ≡ fits used h (length value) → t ≡ true → m ≡ shift start used h value
+    → (let values = drop (list_header_size floor count (used - start)) (take (used + h - start) (drop start m)) in bytes ≡ list_header floor (starts_in count 0 values) (used - start) ++ values)
+    → take start m ++ (bytes ++ drop (used + h - start) (drop start m)) ≡ fronted start used (list_front start used count floor value) value
+fronts_list start used count floor h value m bytes o e p q s w =
+    let g = fits_counted used h (length value) p q in
+    let header = list_front start used count floor value in
+    let n : h ≡ length header = e ∙ front_size start used count floor value in
+    let values = data_in start used value in
+    let c : drop h (take (used + h - start) (drop start m)) ≡ values = rw s (cut_shifted start used h value o (omega arith)) in
+    let b : bytes ≡ header ++ values = rw (← e, c) at w in
+    let k : length m ≡ length value = rw s (length_shift start used h value o (omega arith)) in
+    let d : drop (start + h) m ≡ values ++ drop (used + h) m =
+    data_joined (start + h) (used + h) m (omega arith) (omega arith) ∙ ap (λ l. l ++ drop (used + h) m) (rw s (data_shifted start used h value o (omega arith))) in
+    let i : drop (used + h - start) (drop start m) ≡ drop (used + h) m = drop-drop (used + h - start) start m ∙ ap (λ k. drop k m) (omega arith) in
+    fronts start used header value h o n p q s (rw (b, i, append_assoc header values (drop (used + h) m), ← d, n) (write_is start header m))

@@ -1,16 +1,16 @@
 // Closing a list: `ListBuilder::finish` of the Rust, with the offsets had by walking the data.
 // Derived from parquet-variant 60.1.0, src/builder/list.rs: see lib.rt and NOTICE. Changed: written in Rattle.
-ghost use Rattle.std.specs.Prelude.{◌≡◌, ◌+◌, ◌*◌, ◌^◌, ◌≤◌, ◌<◌, length};
-ghost use Rattle.encoding.specs.Slices.{write};
-ghost use Rattle.encoding.specs.Slices.{counted as counted_of};
-ghost use Rattle.container.specs.Layout.{list_byte, list_header, list_header_size};
-ghost use Rattle.measure.specs.Measure.{data_in, starts_in};
+ghost use Rattle.std.specs.Prelude.{◌≡◌, ◌++◌, ◌^◌, ◌≤◌, ◌<◌, drop, length};
+ghost use Rattle.encoding.specs.Width.{width_at};
+ghost use Rattle.container.specs.Layout.{large, list_byte, list_header, list_header_size};
+ghost use Rattle.measure.specs.Measure.{starts_in};
 ghost use Rattle.list.specs.Close.{ClosesList};
 ghost use Rattle.list.specs.Close.{damaged as damaged_of};
 
-use crate::starts::{put_number, write_starts};
+use crate::starts::write_starts;
 use container::{CloseError, count_size};
-use encoding::slices::{counted, fits, shift_up};
+use encoding::packed::put_packed;
+use encoding::slices::{counted, fits, shift_within};
 use encoding::width::int_size_at;
 use measure::whole_values;
 
@@ -28,11 +28,15 @@ pub fn close_list(
     if damaged(start, used, count, value) {
         return Err(CloseError::Damaged);
     }
-    let size = used - start;
-    let header = list_header_size(floor, count, size);
+    let front = ListHeader {
+        count,
+        size: used - start,
+        floor,
+    };
+    let header = front.len();
     if fits(used, header, value.len()) {
-        let _ = shift_up(value, start, used, header);
-        write_list_header(value, start, count, size, floor);
+        shift_within(value, start, used, header);
+        front.write(&mut value[start..used + header]);
         Ok(used + header)
     } else {
         Err(CloseError::NoRoom)
@@ -43,41 +47,56 @@ pub fn close_list(
 fn damaged(start: usize, used: usize, count: usize, value: &[u8]) -> bool
     ensures { result ≡ damaged_of start used count value.now }
 {
-    !(start <= used) | (!(used <= counted(value.len())) | !whole_values(value, start, used, count))
+    !(start <= used) || !(used <= counted(value.len())) || !whole_values(value, start, used, count)
 }
 
-fn list_header_size(floor: usize, n: usize, size: usize) -> usize
-    requires { n < 2 ^ 60 }
-    ensures { result ≡ list_header_size floor n size }
-{
-    1 + count_size(n) + int_size_at(floor, size) * (n + 1)
+// A list's header but for its offsets: how many they are, the bytes of data, and the floor under the width.
+#[derive(Clone, Copy)]
+struct ListHeader {
+    count: usize,
+    size: usize,
+    floor: usize,
 }
 
-// `array_header` of the Rust.
-fn array_header(large: bool, offset_size: usize) -> u8
-    requires { (1 ≤ offset_size) × (offset_size ≤ 4) }
-    ensures { result ≡ list_byte offset_size large }
-{
-    let base = 3 + (offset_size - 1) as u8 * 4;
-    if large {
-        return base + 16;
+impl ListHeader {
+    fn offset_size(self) -> usize
+        ensures width { result ≡ width_at self.floor self.size }
+        ensures bounds { (1 ≤ result) × (result ≤ 4) }
+    {
+        int_size_at(self.floor, self.size)
     }
-    base
-}
 
-// The header of n values, `size` bytes, that lie behind the room for it.
-fn write_list_header(value: &mut [u8], at: usize, n: usize, size: usize, floor: usize)
-    requires { at + list_header_size floor n size + size ≤ counted_of (length value.old) }
-    ensures { value.new ≡ write at (list_header floor (starts_in n 0 (data_in (at + list_header_size floor n size)
-        (at + list_header_size floor n size + size) value.old)) size) value.old }
-{
-    let width = int_size_at(floor, size);
-    let count = count_size(n);
-    let first = at + 1 + count;
-    let last = first + width * n;
-    let from = last + width;
-    value[at] = array_header(255 < n, width);
-    put_number(value, at + 1, n, count);
-    write_starts(value, first, from, from + size, n, width);
-    put_number(value, last, size, width);
+    // How many bytes it takes.
+    fn len(self) -> usize
+        requires { self.count < 2 ^ 60 }
+        ensures { result ≡ list_header_size self.floor self.count self.size }
+    {
+        1 + count_size(self.count) + self.offset_size() * (self.count + 1)
+    }
+
+    // `array_header` of the Rust.
+    fn first_byte(self) -> u8
+        ensures { result ≡ list_byte (width_at self.floor self.size) (large self.count) }
+    {
+        let base = 3 + (self.offset_size() - 1) as u8 * 4;
+        if 255 < self.count { base + 16 } else { base }
+    }
+
+    // Written into the room for it, behind which the data stands.
+    fn write(self, bytes: &mut [u8])
+        requires few { self.count < 2 ^ 60 }
+        requires room { list_header_size self.floor self.count self.size ≤ length bytes.old }
+        ensures { let values = drop (list_header_size self.floor self.count self.size) bytes.old in
+            bytes.new ≡ list_header self.floor (starts_in self.count 0 values) self.size ++ values }
+    {
+        let n = self.count;
+        let width = self.offset_size();
+        let count = count_size(n);
+        let last = 1 + count + width * n;
+        let (front, values) = bytes.split_at_mut(last + width);
+        front[0] = self.first_byte();
+        put_packed(front, 1, n, count);
+        write_starts(front, 1 + count, values, n, width);
+        put_packed(front, last, self.size, width);
+    }
 }

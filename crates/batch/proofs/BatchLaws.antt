@@ -12,7 +12,8 @@ use lib.Seq.{take-take, take-append-le, take-append-add, take_at, drop_at}
 use Rattle.encoding.specs.Rows.{order}
 use Rattle.encoding.specs.Slices.{Placed, write, placed_number}
 use Rattle.encoding.proofs.RowsLaws.{first_none}
-use Rattle.batch.specs.declared.Added.{Added}
+use Rattle.std.specs.Prelude.{Result}
+use Rattle.batch.specs.declared.AddError.{AddError}
 use Rattle.batch.specs.Layout.{Record, count_of, big_endian, big_number, record_bytes, records_bytes, batch_bytes}
 use Rattle.batch.specs.Writing.{add_rows, added_number, added_at, Starts, Adds}
 use Rattle.batch.specs.Reading.{count_at, present, size_in, misfit, whole, item_of, Contents, item_then, contents_behind, refused, batch, read_batch}
@@ -213,11 +214,11 @@ unfolding write batch_bytes records_bytes
 started file after r a z = let e = sym a.number ∙ z in rw (rw e at a.bytes)
 
 -- a record that was added fits, and stands behind the bytes that were used
-pub record Stands (file : List ℕ) (used : ℕ) (x : Record) (r : Added) (after : List ℕ) : Type 0 where
+pub record Stands (file : List ℕ) (used : ℕ) (x : Record) (r : Result ℕ AddError) (after : List ℕ) : Type 0 where
   pub fits : Fits x
   pub bytes : take (added_at r) after ≡ take used file ++ record_bytes x
 
-pub added : {file after : List ℕ} {used : ℕ} {x : Record} {r : Added} → Adds file used x r after → added_number r ≡ 0 → Stands file used x r after
+pub added : {file after : List ℕ} {used : ℕ} {x : Record} {r : Result ℕ AddError} → Adds file used x r after → added_number r ≡ 0 → Stands file used x r after
 unfolding write
 added {file} {after} {used} {x} {r} a z =
     let e = sym a.number ∙ z in
@@ -240,13 +241,13 @@ records_bytes_append [] more = refl
 records_bytes_append (x ∷ xs) more = rw (records_bytes_append xs more, append_assoc)
 
 -- behind the bytes of a batch: the bytes of the batch with one record more
-pub added_batch : {file after : List ℕ} {used : ℕ} {x : Record} {r : Added} (xs : List Record) → Adds file used x r after → added_number r ≡ 0
+pub added_batch : {file after : List ℕ} {used : ℕ} {x : Record} {r : Result ℕ AddError} (xs : List Record) → Adds file used x r after → added_number r ≡ 0
     → take used file ≡ batch_bytes xs → take (added_at r) after ≡ batch_bytes (xs ++ (x ∷ []))
 unfolding batch_bytes records_bytes
 added_batch {x = x} xs a z b = (added a z).bytes ∙ (rw (b, records_bytes_append xs (x ∷ []), append-nil (record_bytes x)))
 
 -- behind any file's bytes, its tail taken off: what came out of them, and the record
-pub added_comes_out : {file after : List ℕ} {used : ℕ} {x : Record} {r : Added} (c : Contents) → read_batch (take used file) ≡ batch c → used ≤ length file
+pub added_comes_out : {file after : List ℕ} {used : ℕ} {x : Record} {r : Result ℕ AddError} (c : Contents) → read_batch (take used file) ≡ batch c → used ≤ length file
     → Adds file (used - c.tail) x r after → added_number r ≡ 0
     → read_batch (take (added_at r) after) ≡ batch (record { items = c.items ++ (whole x ∷ []); tail = 0 })
 unfolding records_bytes

@@ -8,6 +8,7 @@ use lib.Dec.{ltb}
 use borrow.Author.Tests.{le-leb, leb-true, ltb-false}
 use lib.ListN.{length, take, drop, length-take, length-drop, length-append, take-append-drop}
 use lib.Seq.{drop-drop, take-take, take-append-le, take-append-add, drop-append-le, take-nil, take_at, drop_at}
+use Rattle.std.specs.Prelude.{Ok}
 use Rattle.batch.specs.Layout.{record_of, big_number}
 use Rattle.batch.specs.Writing.{no_batch}
 use Rattle.batch.specs.Reading.{count_at, present, body_of, size_in, misfit, whole, bad, item_of, Contents, tail_only, item_then, contents_behind}
@@ -148,11 +149,11 @@ module _ (file : List ℕ) (at : ℕ) (from : ℕ → Outcome) where
   behind = at + (4 + count_at bs)
 
   walk_step : (present bs ≡ true → from behind ≡ batch (contents_behind 0 (drop behind file)))
-      → step_then file (step_from file at) from ≡ batch (contents_behind 0 bs)
+      → step_then file (Ok (step_from file at)) from ≡ batch (contents_behind 0 bs)
   unfolding step_from
   walk_step h = go (present bs) (misfit (body_of bs)) refl refl
     where
-      go : (t u : Bool) → present bs ≡ t → misfit (body_of bs) ≡ u → step_then file (step_from file at) from ≡ batch (contents_behind 0 bs)
+      go : (t u : Bool) → present bs ≡ t → misfit (body_of bs) ≡ u → step_then file (Ok (step_from file at)) from ≡ batch (contents_behind 0 bs)
       go false u p m = rw (p, comes_none bs p)
       go true true p m = rw (p, m, h p, comes_first bs p, item_bad (body_of bs) m, drop-drop (4 + count_at bs) at file)
       go true false p m =

@@ -7,7 +7,9 @@ use native.Mathlib.Numerals.{add-one}
 use lib.Bits.{bit_and, and_mask}
 use lib.ListN.{set, length, take, drop, get_or, length-reverse}
 use lib.Seq.{drop-cons}
-use Rattle.encoding.specs.Packed.{le}
+use mir.Syntax.{w32}
+use Rattle.std.specs.Int.{to_be_bytes, from_be_bytes}
+use Rattle.encoding.specs.Packed.{le, number}
 use Rattle.encoding.specs.Slices.{write}
 use Rattle.encoding.proofs.PackedLaws.{length_le, number_le}
 use Rattle.encoding.proofs.SliceLaws.{length_write, write_one, write_write}
@@ -21,34 +23,17 @@ pub number_big : (n : ℕ) → n < 256 ^ 4 → big_number (big_endian n) ≡ n
 unfolding big_endian big_number
 number_big n h = rw (reverse-reverse (le 4 n)) (number_le 4 n h)
 
--- the bytes by shift and mask
-pub big_shifted : (n : ℕ) → big_endian n ≡ bit_and (n / 2 ^ 24) 255 ∷ (bit_and (n / 2 ^ 16) 255 ∷ (bit_and (n / 2 ^ 8) 255 ∷ (bit_and n 255 ∷ [])))
+-- as they are written, and read
+pub big_bytes : (n : ℕ) → to_be_bytes w32 n ≡ big_endian n
 unfolding big_endian le
-big_shifted n =
+big_bytes n =
     let a : n / 256 / 256 / 256 ≡ n / 2 ^ 24 = omega arith in
     let b : n / 256 / 256 ≡ n / 2 ^ 16 = omega arith in
-    rw (and_mask (n / 2 ^ 24) 8, and_mask (n / 2 ^ 16) 8, and_mask (n / 2 ^ 8) 8, and_mask n 8, a, b)
+    rw (a, b) refl
 
--- ---- bytes written one behind the other
-
--- bytes behind those written before
-pub written_behind : (l m n a b : List ℕ) (at p : ℕ) → m ≡ write at a l → n ≡ write p b m → p ≡ at + length a
-    → at + (length a + length b) ≤ length l → n ≡ write at (a ++ b) l
-written_behind l m n a b at p e f q h = f ∙ (rw (q, e) (write_write l a b at h))
-
-one_more_lem : (l m bs : List ℕ) (at p x : ℕ) → m ≡ write at bs l → p ≡ at + length bs → at + (length bs + 1) ≤ length l
-    → set m p x ≡ write at (bs ++ (x ∷ [])) l
-one_more_lem l m bs at p x e q h =
-    let n : length m ≡ length l = ap length e ∙ length_write at bs l (omega arith) in
-    written_behind l m (set m p x) bs (x ∷ []) at p e (write_one m p x (omega arith)) q h
-
-pub write_four : (l : List ℕ) (at a b c d : ℕ) → at + 4 ≤ length l
-    → set (set (set (set l at a) (at + 1) b) (at + 2) c) (at + 3) d ≡ write at (a ∷ (b ∷ (c ∷ (d ∷ [])))) l
-write_four l at a b c d h =
-    let e = write_one l at a (omega arith) in
-    let f = one_more_lem l _ (a ∷ []) at (at + 1) b e refl (omega arith) in
-    let g = one_more_lem l _ (a ∷ (b ∷ [])) at (at + 2) c f refl (omega arith) in
-    one_more_lem l _ (a ∷ (b ∷ (c ∷ []))) at (at + 3) d g refl (omega arith)
+pub big_read : (a b c d : ℕ) → from_be_bytes w32 (a ∷ (b ∷ (c ∷ (d ∷ [])))) ≡ big_number (a ∷ (b ∷ (c ∷ (d ∷ []))))
+unfolding big_number number
+big_read a b c d = omega arith
 
 -- ---- and read
 

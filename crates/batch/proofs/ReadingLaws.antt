@@ -9,11 +9,13 @@ use borrow.Author.Tests.{lt-ltb, le-ltb, le-leb, lt-leb, leb-true, ltb-false}
 use lib.ListN.{length, take, drop, length-take, length-drop}
 use lib.Seq.{drop-drop, take-take}
 use Rattle.encoding.specs.Rows.{first, order, in_order}
+use Rattle.std.specs.Prelude.{Result, Ok, Err}
+use Rattle.batch.specs.declared.NoBatch.{NoBatch}
 use Rattle.batch.specs.declared.Step.{Step}
-use Rattle.batch.specs.declared.Step.TheVariants.{Whole, Bad, Tail, NoBatch}
+use Rattle.batch.specs.declared.Step.TheVariants.{Whole, Bad, Tail}
 use Rattle.batch.specs.Layout.{big_number}
 use Rattle.batch.specs.Writing.{no_batch}
-use Rattle.batch.specs.Reading.{count_at, present, body_of, size_in, misfit, step_from, step_at, step_number, bad_at, step_rows, read_number, read_rows, dictionary_in, value_in}
+use Rattle.batch.specs.Reading.{count_at, present, body_of, size_in, misfit, refusal, step_from, step_at, step_number, bad_at, step_rows, read_number, read_rows}
 
 pub step_in_order : (file : List ℕ) (place : ℕ) → in_order order (step_rows file place) ≡ true
 step_in_order file place = refl
@@ -68,13 +70,13 @@ module _ (file : List ℕ) (at : ℕ) where
 
 -- ---- a step
 
-pub step_refused : (file : List ℕ) (place : ℕ) → no_batch file ≡ true → NoBatch ≡ step_at file place
+pub step_refused : (file : List ℕ) (place : ℕ) → no_batch file ≡ true → Err refusal ≡ step_at file place
 unfolding step_at
 step_refused file place e = rw e
 
-pub step_taken : (file : List ℕ) (place at : ℕ) {r : Step} → no_batch file ≡ false → at ≡ max place 1 → r ≡ step_from file at → r ≡ step_at file place
+pub step_taken : (file : List ℕ) (place at : ℕ) {r : Step} → no_batch file ≡ false → at ≡ max place 1 → r ≡ step_from file at → Ok r ≡ step_at file place
 unfolding step_at
-step_taken file place at e m h = rw (e, ← m) h
+step_taken file place at e m h = rw (e, ← m) (ap Ok h)
 
 -- a whole record lies within the file
 pub record Within (file : List ℕ) (dictionary value next : ℕ) : Type 0 where
@@ -114,34 +116,26 @@ module _ (file : List ℕ) (at d v n : ℕ) where
           let w : n ≡ behind = cc in
           record { dictionary_order = omega arith; dictionary_end = omega arith; value_order = omega arith; value_end = omega arith }
 
-pub within : (file : List ℕ) (place d v n : ℕ) → Whole d v n ≡ step_at file place → Within file d v n
+pub within : (file : List ℕ) (place d v n : ℕ) → Ok (Whole d v n) ≡ step_at file place → Within file d v n
 unfolding step_at
 within file place d v n e = go (no_batch file) e
   where
-    go : (t : Bool) → Whole d v n ≡ cond t NoBatch (step_from file (max place 1)) → Within file d v n
+    go : (t : Bool) → Ok (Whole d v n) ≡ cond t (Err refusal) (Ok (step_from file (max place 1))) → Within file d v n
     go true q = let z : ◌≡◌ {A = ℕ} 0 1 = cc in absurd (omega arith)
-    go false q = within_from file (max place 1) d v n q
-
--- the other steps name no parts
-pub no_parts : (file : List ℕ) (s : Step) → ((d v n : ℕ) → s ≡ Whole d v n → ⊥)
-    → (◌≡◌ {A = List ℕ} [] (dictionary_in file s)) × (◌≡◌ {A = List ℕ} [] (value_in file s))
-no_parts file (Whole d v n) h = absurd (h d v n refl)
-no_parts file (Bad n) h = (refl, refl)
-no_parts file (Tail n) h = (refl, refl)
-no_parts file NoBatch h = (refl, refl)
+    go false q = let w : Whole d v n ≡ step_from file (max place 1) = cc in within_from file (max place 1) d v n w
 
 -- ---- a step's number
 
 module _ (file : List ℕ) (at : ℕ) where
-  from_numbers : (step_number (step_from file at) ≡ cond (bad_at (drop at file)) 19 0) × (read_number (step_from file at) ≡ 0)
+  from_number : step_number (Ok (step_from file at)) ≡ cond (bad_at (drop at file)) 19 0
   unfolding step_from
-  from_numbers = go (present (drop at file)) (misfit (body_of (drop at file))) refl refl
+  from_number = go (present (drop at file)) (misfit (body_of (drop at file))) refl refl
     where
       go : (t u : Bool) → present (drop at file) ≡ t → misfit (body_of (drop at file)) ≡ u
-          → (step_number (step_from file at) ≡ cond (bad_at (drop at file)) 19 0) × (read_number (step_from file at) ≡ 0)
-      go false u p m = (rw p, rw p)
-      go true false p m = (rw (p, m), rw (p, m))
-      go true true p m = (rw (p, m), rw (p, m))
+          → step_number (Ok (step_from file at)) ≡ cond (bad_at (drop at file)) 19 0
+      go false u p m = rw p
+      go true false p m = rw (p, m)
+      go true true p m = rw (p, m)
 
 -- 21 is the call's, 19 the record's, in the table's order
 pub step_numbers : (file : List ℕ) (place : ℕ)
@@ -152,4 +146,4 @@ step_numbers file place = go (no_batch file) refl
     go : (t : Bool) → no_batch file ≡ t
         → (step_number (step_at file place) ≡ first (step_rows file place)) × (read_number (step_at file place) ≡ first (read_rows file))
     go true v = (rw v, rw v)
-    go false v = let f = from_numbers file (max place 1) in (rw v f.0, rw v f.1)
+    go false v = (rw v (from_number file (max place 1)), rw v)

@@ -1,6 +1,7 @@
 -- Document 02, A7: what reading gives, of any bytes.
-use Rattle.std.specs.Prelude.{Bool, false, cond, ◌||◌, List, [], ◌∷◌, ℕ, zero, suc, ◌+◌, ◌-◌, max, leb, ltb, length, take, drop}
+use Rattle.std.specs.Prelude.{Bool, false, cond, ◌||◌, List, [], ◌∷◌, ℕ, zero, suc, ◌+◌, ◌-◌, max, leb, ltb, length, take, drop, Result, Ok, Err}
 use Rattle.encoding.specs.Rows.{Row, row}
+use Rattle.batch.specs.declared.NoBatch.{NoBatch}
 use Rattle.batch.specs.declared.Step.{Step}
 use Rattle.batch.specs.declared.Step.TheVariants as step
 use Rattle.batch.specs.Layout.{Record, record_of, big_number}
@@ -71,6 +72,10 @@ read_batch file = cond (no_batch file) (refused 21) (batch (contents_behind 0 (d
 
 -- ---- one step, by places
 
+-- 21, as the call answers it
+abbrev pub refusal : NoBatch
+refusal = record {}
+
 -- what stands at a place: 21; a tail; a bad record, and the place behind it; or a whole record, its dictionary up to its value, its value up
 -- to the place behind it. A place below 1 counts as 1.
 unfoldable pub step_from : List ℕ → ℕ → Step
@@ -81,22 +86,20 @@ step_from file at =
     (cond (misfit (body_of bs)) (step.Bad behind) (step.Whole (at + 8) (at + (8 + size_in (body_of bs))) behind))
     (step.Tail (length bs))
 
-unfoldable pub step_at : List ℕ → ℕ → Step
-step_at file place = cond (no_batch file) step.NoBatch (step_from file (max place 1))
+unfoldable pub step_at : List ℕ → ℕ → Result Step NoBatch
+step_at file place = cond (no_batch file) (Err refusal) (Ok (step_from file (max place 1)))
 
 -- a step's number in the table, 0 without one: 19 is the record's
-abbrev pub step_number : Step → ℕ
-step_number step.NoBatch = 21
-step_number (step.Bad next) = 19
-step_number (step.Whole dictionary value next) = 0
-step_number (step.Tail size) = 0
+abbrev pub step_number : Result Step NoBatch → ℕ
+step_number (Err e) = 21
+step_number (Ok (step.Bad next)) = 19
+step_number (Ok (step.Whole dictionary value next)) = 0
+step_number (Ok (step.Tail size)) = 0
 
 -- that of the call itself: 19 is "for that record", and reading is carried out
-abbrev pub read_number : Step → ℕ
-read_number step.NoBatch = 21
-read_number (step.Bad next) = 0
-read_number (step.Whole dictionary value next) = 0
-read_number (step.Tail size) = 0
+abbrev pub read_number : Result Step NoBatch → ℕ
+read_number (Err e) = 21
+read_number (Ok s) = 0
 
 -- their rows
 abbrev pub read_rows : List ℕ → List Row
@@ -112,17 +115,17 @@ step_rows file place = row 21 (no_batch file) ∷ (row 19 (bad_at (drop (max pla
 abbrev pub part : ℕ → ℕ → List ℕ → List ℕ
 part from to file = take (to - from) (drop from file)
 
-abbrev pub dictionary_in : List ℕ → Step → List ℕ
-dictionary_in file (step.Whole dictionary value next) = part dictionary value file
-dictionary_in file (step.Bad next) = []
-dictionary_in file (step.Tail size) = []
-dictionary_in file step.NoBatch = []
+abbrev pub dictionary_in : List ℕ → Result Step NoBatch → List ℕ
+dictionary_in file (Ok (step.Whole dictionary value next)) = part dictionary value file
+dictionary_in file (Ok (step.Bad next)) = []
+dictionary_in file (Ok (step.Tail size)) = []
+dictionary_in file (Err e) = []
 
-abbrev pub value_in : List ℕ → Step → List ℕ
-value_in file (step.Whole dictionary value next) = part value next file
-value_in file (step.Bad next) = []
-value_in file (step.Tail size) = []
-value_in file step.NoBatch = []
+abbrev pub value_in : List ℕ → Result Step NoBatch → List ℕ
+value_in file (Ok (step.Whole dictionary value next)) = part value next file
+value_in file (Ok (step.Bad next)) = []
+value_in file (Ok (step.Tail size)) = []
+value_in file (Err e) = []
 
 -- ---- steps, one after the other
 
@@ -131,11 +134,11 @@ outcome_then i (refused n) = refused n
 outcome_then i (batch c) = batch (item_then i c)
 
 -- a step's item, then what comes from the place that it names; a tail or 21 is the end
-abbrev pub step_then : List ℕ → Step → (ℕ → Outcome) → Outcome
-step_then file step.NoBatch from = refused 21
-step_then file (step.Tail size) from = batch (tail_only size)
-step_then file (step.Bad next) from = outcome_then bad (from next)
-step_then file (step.Whole dictionary value next) from = outcome_then (whole (record_of (part dictionary value file) (part value next file))) (from next)
+abbrev pub step_then : List ℕ → Result Step NoBatch → (ℕ → Outcome) → Outcome
+step_then file (Err e) from = refused 21
+step_then file (Ok (step.Tail size)) from = batch (tail_only size)
+step_then file (Ok (step.Bad next)) from = outcome_then bad (from next)
+step_then file (Ok (step.Whole dictionary value next)) from = outcome_then (whole (record_of (part dictionary value file) (part value next file))) (from next)
 
 -- at most n steps, from a place on
 unfoldable pub walk : ℕ → List ℕ → ℕ → Outcome

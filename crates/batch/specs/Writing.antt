@@ -1,9 +1,9 @@
 -- Document 02, A7: "The writer starts a file, or adds a record behind the used bytes of one."
-use Rattle.std.specs.Prelude.{◌≡◌, Bool, true, cond, not, ◌||◌, List, [], ◌∷◌, ℕ, ◌+◌, ◌^◌, eqb, leb, ltb, length, take}
+use Rattle.std.specs.Prelude.{◌≡◌, Bool, true, cond, not, ◌||◌, List, [], ◌∷◌, ℕ, ◌+◌, ◌^◌, eqb, leb, ltb, length, take, Result, Ok, Err}
 use Rattle.encoding.specs.Rows.{Row, row, first}
 use Rattle.encoding.specs.Slices.{Placed, placed_number, write}
-use Rattle.batch.specs.declared.Added.{Added}
-use Rattle.batch.specs.declared.Added.TheVariants.{Done, Damaged, NoBatch, NoRoom}
+use Rattle.batch.specs.declared.AddError.{AddError}
+use Rattle.batch.specs.declared.AddError.TheVariants.{Damaged, NoBatch, NoRoom}
 use Rattle.batch.specs.Layout.{Record, count_of, record_bytes, batch_bytes}
 
 -- 21: "an empty file or another version"
@@ -34,20 +34,18 @@ add_rows file used x =
     ∷ []))
 
 -- an answer's number in the table, 0 without a refusal, and its value: the used bytes then
-abbrev pub added_number : Added → ℕ
-added_number (Done used) = 0
-added_number Damaged = 1
-added_number NoBatch = 21
-added_number NoRoom = 14
+abbrev pub added_number : Result ℕ AddError → ℕ
+added_number (Ok used) = 0
+added_number (Err Damaged) = 1
+added_number (Err NoBatch) = 21
+added_number (Err NoRoom) = 14
 
-abbrev pub added_at : Added → ℕ
-added_at (Done used) = used
-added_at Damaged = 0
-added_at NoBatch = 0
-added_at NoRoom = 0
+abbrev pub added_at : Result ℕ AddError → ℕ
+added_at (Ok used) = used
+added_at (Err e) = 0
 
 -- an answer, and the buffer at exit: the record behind the used bytes and nothing else, or nothing
-pub record Adds (file : List ℕ) (used : ℕ) (x : Record) (r : Added) (after : List ℕ) : Type 0 where
+pub record Adds (file : List ℕ) (used : ℕ) (x : Record) (r : Result ℕ AddError) (after : List ℕ) : Type 0 where
   pub number : added_number r ≡ first (add_rows file used x)
   pub used_then : added_at r ≡ cond (eqb (first (add_rows file used x)) 0) (used + length (record_bytes x)) 0
   pub bytes : after ≡ cond (eqb (first (add_rows file used x)) 0) (write used (record_bytes x) file) file

@@ -1,13 +1,11 @@
 // A file started, and a record added behind the used bytes of one. A file may be longer than 4,294,967,295 bytes: only a record's count is
 // held to four bytes.
-ghost use Rattle.std.specs.Prelude.{◌≡◌, ◌&&◌, ◌+◌, ◌≤◌, ◌<◌, ◌^◌, leb, ltb, length};
-ghost use Rattle.encoding.specs.Slices.{write};
+ghost use Rattle.std.specs.Prelude.{◌≡◌, ◌+◌, ◌≤◌, ◌<◌, ◌^◌, length, MatchOption};
 ghost use Rattle.batch.specs.Layout.{record_of, record_bytes};
 ghost use Rattle.batch.specs.Writing.{Adds, Starts};
 
-use crate::Added;
-use crate::numbers::put_number;
-use encoding::slices::{NoRoom, write_slice};
+use crate::{AddError, check_version};
+use encoding::slices::NoRoom;
 
 // An empty batch: the version byte.
 pub fn start(file: &mut [u8]) -> Result<(), NoRoom>
@@ -21,57 +19,43 @@ pub fn start(file: &mut [u8]) -> Result<(), NoRoom>
 }
 
 // The record behind the first `used` bytes of the buffer. Of these only the version is looked at.
-pub fn add(file: &mut [u8], used: usize, dictionary: &[u8], value: &[u8]) -> Added
+pub fn add(file: &mut [u8], used: usize, dictionary: &[u8], value: &[u8]) -> Result<usize, AddError>
     ensures { Adds file.old used (record_of dictionary.now value.now) result file.new }
 {
     if file.len() < used {
-        return Added::Damaged;
+        return Err(AddError::Damaged);
     }
-    if used == 0 {
-        return Added::NoBatch;
+    check_version(&file[..used])?;
+    let Some(count) = count_of(dictionary.len(), value.len()) else {
+        return Err(AddError::NoRoom);
+    };
+    let size = 4 + count as usize;
+    if file.len() - used < size {
+        return Err(AddError::NoRoom);
     }
-    if file[0] != 1 {
-        return Added::NoBatch;
-    }
-    if has_room(file.len() - used, dictionary.len(), value.len()) {
-        write_record(file, used, dictionary, value);
-        return Added::Done(used + (8 + (dictionary.len() + value.len())));
-    }
-    Added::NoRoom
+    let end = used + size;
+    write_record(&mut file[used..end], dictionary, value);
+    Ok(end)
 }
 
-// Does the count go into four bytes, and the record into `room` bytes? No sum is made before it is known to fit.
-fn has_room(room: usize, dictionary: usize, value: usize) -> bool
-    ensures { result ≡ (ltb (4 + (dictionary + value)) (256 ^ 4) && leb (8 + (dictionary + value)) room) }
+// The count of a record, where it goes into four bytes.
+fn count_of(dictionary: usize, value: usize) -> Option<u32>
+    ensures { MatchOption result (256 ^ 4 ≤ 4 + (dictionary + value)) (λ n. n ≡ 4 + (dictionary + value)) }
 {
-    if 0xffff_fffb < dictionary {
-        return false;
-    }
-    if 0xffff_fffb - dictionary < value {
-        return false;
-    }
-    8 + (dictionary + value) <= room
+    let sizes = dictionary.checked_add(value)?;
+    u32::try_from(sizes.checked_add(4)?).ok()
 }
 
-fn write_record(file: &mut [u8], at: usize, dictionary: &[u8], value: &[u8])
-    requires value_bound { 4 + (length dictionary.now + length value.now) < 256 ^ 4 }
-    requires value_in_bounds { at + (8 + (length dictionary.now + length value.now)) ≤ length file.old }
-    ensures { file.new ≡
-        write at (record_bytes (record_of dictionary.now value.now)) file.old }
+// A record into just the part that it fills.
+fn write_record(part: &mut [u8], dictionary: &[u8], value: &[u8])
+    requires counted { 4 + (length dictionary.now + length value.now) < 256 ^ 4 }
+    requires filled { length part.old ≡ 8 + (length dictionary.now + length value.now) }
+    ensures { part.new ≡ record_bytes (record_of dictionary.now value.now) }
 {
     let size = dictionary.len();
-    put_number(file, at, 4 + (size + value.len()));
-    put_number(file, at + 4, size);
-    put_bytes(file, at + 8, dictionary);
-    put_bytes(file, at + (8 + size), value);
-}
-
-// The bytes at a place that may lie behind what `write_slice` counts: it is lent only the part that they fill.
-fn put_bytes(file: &mut [u8], at: usize, bytes: &[u8])
-    requires bytes_len_bound { length bytes.now < 256 ^ 4 }
-    requires bytes_in_bounds { at + length bytes.now ≤ length file.old }
-    ensures { file.new ≡ write at bytes.now file.old }
-{
-    let end = at + bytes.len();
-    let _ = write_slice(&mut file[at..end], 0, bytes);
+    let count = 4 + (size + value.len());
+    part[..4].copy_from_slice(&(count as u32).to_be_bytes());
+    part[4..8].copy_from_slice(&(size as u32).to_be_bytes());
+    part[8..8 + size].copy_from_slice(dictionary);
+    part[8 + size..].copy_from_slice(value);
 }

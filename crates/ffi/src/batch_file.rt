@@ -2,7 +2,7 @@
 ghost use Rattle.batch.specs.Layout.{record_of};
 ghost use Rattle.ffi.specs.BatchFile.{AddsWords, StartsWords, TellsStep, step_words};
 
-use batch::{Added, Step, add, record_at, start};
+use batch::{AddError, NoBatch, Step, add, record_at, start};
 use encoding::slices::NoRoom;
 
 // The version byte at the start of `file`, whose used bytes are then 1; 14 where there is no byte.
@@ -28,15 +28,14 @@ pub extern "C" fn variant_batch_add(
     ensures { AddsWords result (record_of dictionary.now value.now) file.old file.new
         used.old used.new }
 {
-    let a = add(file, *used, dictionary, value);
-    match a {
-        Added::Done(n) => {
+    match add(file, *used, dictionary, value) {
+        Ok(n) => {
             *used = n;
             0
         }
-        Added::Damaged => 1,
-        Added::NoBatch => 21,
-        Added::NoRoom => 14,
+        Err(AddError::Damaged) => 1,
+        Err(AddError::NoBatch) => 21,
+        Err(AddError::NoRoom) => 14,
     }
 }
 
@@ -57,29 +56,30 @@ pub extern "C" fn variant_batch_record_at(
         (step_words kind.old dictionary.old value.old next.old tail.old)
         (step_words kind.new dictionary.new value.new next.new tail.new) }
 {
-    let s = record_at(file, place);
-    match s {
-        Step::Whole {
-            dictionary: d,
-            value: v,
-            next: n,
-        } => {
+    match record_at(file, place) {
+        Ok(
+            Step::Whole {
+                dictionary: d,
+                value: v,
+                next: n,
+            },
+        ) => {
             *kind = 0;
             *dictionary = d;
             *value = v;
             *next = n;
             0
         }
-        Step::Bad(n) => {
+        Ok(Step::Bad(n)) => {
             *kind = 1;
             *next = n;
             0
         }
-        Step::Tail(n) => {
+        Ok(Step::Tail(n)) => {
             *kind = 2;
             *tail = n;
             0
         }
-        Step::NoBatch => 21,
+        Err(NoBatch) => 21,
     }
 }

@@ -22,7 +22,8 @@ use Rattle.grammar.specs.Grammar.{starting}
 use Rattle.grammar.specs.Tests.{is_scalar, is_list_head, is_object_head, is_value, pair_rows}
 use Rattle.grammar.specs.Tests.{each_value, starts_of, stored_ids, list_offsets, list_from, object_offsets, object_from}
 use Rattle.reader.proofs.PairLaws.{pair_valid}
-use Rattle.batch.specs.declared.Added.{Added}
+use Rattle.std.specs.Prelude.{Result}
+use Rattle.batch.specs.declared.AddError.{AddError}
 use Rattle.batch.specs.Layout.{record_of, record_bytes, records_bytes, batch_bytes, count_of}
 use Rattle.batch.specs.Writing.{no_batch, add_rows, Adds, start_rows, Starts}
 use Rattle.batch.proofs.WritingLaws.{length_record, no_batch_used, version_one}
@@ -107,7 +108,7 @@ none_added out v used e = (rw e (omega arith), rw e (write_none out used))
 record_size : (v : List ℕ) → length (record_bytes (record_of never_used v)) ≡ 11 + length v
 record_size v = length_record (record_of never_used v) ∙ (omega arith)
 
-pub one_added : (out after v : List ℕ) (used : ℕ) {r : Added} → 1 ≤ used → get_or out 0 0 ≡ 1 → length v ≤ 3 → used + length (bytes_of v) ≤ length out
+pub one_added : (out after v : List ℕ) (used : ℕ) {r : Result ℕ AddError} → 1 ≤ used → get_or out 0 0 ≡ 1 → length v ≤ 3 → used + length (bytes_of v) ≤ length out
     → bytes_of v ≡ record_bytes (record_of never_used v) → Adds out used (record_of never_used v) r after
     → (used + (11 + length v) ≡ used + length (bytes_of v)) × (after ≡ write used (bytes_of v) out)
 unfolding first

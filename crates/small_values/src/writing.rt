@@ -90,6 +90,6 @@ fn add_value(out: &mut [u8], used: usize, string: &[u8]) -> usize
     if read_pair(b"\x01\x00\x00", string) != 0 {
         return used;
     }
-    add(out, used, b"\x01\x00\x00", string);
+    let _ = add(out, used, b"\x01\x00\x00", string);
     used + (11 + string.len())
 }

@@ -11,24 +11,24 @@ use Rattle.batch.proofs.reading.record_from.Goals.{Else-left-count}
 there : (c : Else-left-count) → let a = c.args in present (drop a.at a.file.now) ≡ true
 there c =
     let a = c.args in
-    present_there a.file.now a.at c.left_from-left.ensures
-    c.number_at-count.ensures.0 c.if-left-lt4.false c.if-left-count.false
+    present_there a.file.now a.at c.saturating_sub-left.ensures
+    c.number_at-count.ensures.is c.if-left-lt4.false c.if-left-count.false
 
 pub returns-then-left-lt4 : goal.returns-then-left-lt4
-returns-then-left-lt4 c = step_tail _ _ c.left_from-left.ensures (omega arith)
+returns-then-left-lt4 c = step_tail _ _ c.saturating_sub-left.ensures (omega arith)
 
 pub returns-then-left-count : goal.returns-then-left-count
 returns-then-left-count c =
-    let n = c.number_at-count.ensures.0 in
-    step_tail _ _ c.left_from-left.ensures (omega arith)
+    let n = c.number_at-count.ensures.is in
+    step_tail _ _ c.saturating_sub-left.ensures (omega arith)
 
 pub returns-then-count-lt4 : goal.returns-then-count-lt4
-returns-then-count-lt4 c = step_bad_count _ _ (there (goal.at.returns-then-count-lt4 c).Else-left-count) c.number_at-count.ensures.0 c.if-count-lt4.true
+returns-then-count-lt4 c = step_bad_count _ _ (there (goal.at.returns-then-count-lt4 c).Else-left-count) c.number_at-count.ensures.is c.if-count-lt4.true
 
 pub returns-then-size-count : goal.returns-then-size-count
 returns-then-size-count c =
-    step_whole _ _ (there (goal.at.returns-then-size-count c).Else-left-count) c.number_at-count.ensures.0 c.if-count-lt4.false c.number_at-size.ensures.0 c.if-size-count.true
+    step_whole _ _ (there (goal.at.returns-then-size-count c).Else-left-count) c.number_at-count.ensures.is c.if-count-lt4.false c.number_at-size.ensures.is c.if-size-count.true
 
-pub returns : goal.returns
-returns c =
-    step_bad_size _ _ (there (goal.at.returns c).Else-left-count) c.number_at-count.ensures.0 c.if-count-lt4.false c.number_at-size.ensures.0 c.if-size-count.false
+pub returns-else-size-count : goal.returns-else-size-count
+returns-else-size-count c =
+    step_bad_size _ _ (there (goal.at.returns-else-size-count c).Else-left-count) c.number_at-count.ensures.is c.if-count-lt4.false c.number_at-size.ensures.is c.if-size-count.false

@@ -1,8 +1,14 @@
--- Four writes in a row are the record's.
-use Rattle.batch.proofs.WritingLaws.{record_written}
+-- Four parts filled in a row are the record's.
+use mathlib.Core.Path.{◌≡◌, ◌∙◌}
+use Rattle.batch.specs.Layout.{record_bytes}
+use Rattle.batch.proofs.NumberLaws.{length_big, big_bytes}
+use Rattle.batch.proofs.WritingLaws.{filled}
 use Rattle.batch.proofs.writing.write_record.Goals as goal
 
 pub returns : goal.returns
+unfolding record_bytes
 returns c =
-    record_written _ _ _ _ _ _ _ _ c.requires.value_in_bounds
-    c.put_number.ensures c.put_number-2.ensures c.put_bytes.ensures c.put_bytes-2.ensures
+    let count = c.copy_from_slice.ensures.after ∙ c.to_be_bytes.ensures ∙ big_bytes _ in
+    let size = c.copy_from_slice-2.ensures.after ∙ c.to_be_bytes-2.ensures ∙ big_bytes _ in
+    rw (count, size, c.copy_from_slice-3.ensures.after, c.copy_from_slice-4.ensures.after)
+    (filled c.args.part.now _ _ _ _ (length_big _) (length_big _) c.requires.filled)

@@ -1,18 +1,17 @@
 -- Each arm by the crate's own answer.
-use mathlib.Core.Path.{ap}
+use mathlib.Core.Path.{refl}
 use native.Mathlib.Omega.{arith}
-use Rattle.batch.specs.Writing.{added_number}
 use Rattle.ffi.proofs.BatchFileLaws.{adds, adds_refused}
 use Rattle.ffi.proofs.batch_file.variant_batch_add.Goals as goal
 
-pub returns-in-Done : goal.returns-in-Done
-returns-in-Done c = adds c.add-a.ensures c.in-Done.is
+pub returns-in-Ok : goal.returns-in-Ok
+returns-in-Ok c = adds (rw c.in-Ok.is at c.add.ensures)
 
-pub returns-in-Damaged : goal.returns-in-Damaged
-returns-in-Damaged c = adds_refused c.add-a.ensures (ap added_number c.in-Damaged.is) (λ h. omega arith)
+pub returns-in-Err-Damaged : goal.returns-in-Err-Damaged
+returns-in-Err-Damaged c = adds_refused (rw (c.in-Err-Damaged.is, c.in-Err-Damaged.field-0-is) at c.add.ensures) refl (λ h. omega arith)
 
-pub returns-in-NoBatch : goal.returns-in-NoBatch
-returns-in-NoBatch c = adds_refused c.add-a.ensures (ap added_number c.in-NoBatch.is) (λ h. omega arith)
+pub returns-in-Err-NoBatch : goal.returns-in-Err-NoBatch
+returns-in-Err-NoBatch c = adds_refused (rw (c.in-Err-NoBatch.is, c.in-Err-NoBatch.field-0-is) at c.add.ensures) refl (λ h. omega arith)
 
-pub returns-in-NoRoom : goal.returns-in-NoRoom
-returns-in-NoRoom c = adds_refused c.add-a.ensures (ap added_number c.in-NoRoom.is) (λ h. omega arith)
+pub returns-in-Err-NoRoom : goal.returns-in-Err-NoRoom
+returns-in-Err-NoRoom c = adds_refused (rw (c.in-Err-NoRoom.is, c.in-Err-NoRoom.field-0-is) at c.add.ensures) refl (λ h. omega arith)

@@ -4,18 +4,18 @@ use Rattle.ffi.specs.BatchFile.{step_over}
 use Rattle.ffi.proofs.BatchFileLaws.{tells}
 use Rattle.ffi.proofs.batch_file.variant_batch_record_at.Goals as goal
 
-pub returns-in-Whole : goal.returns-in-Whole
+pub returns-in-Ok-Whole : goal.returns-in-Ok-Whole
 unfolding step_over
-returns-in-Whole c = tells (sym c.in-Whole.is ∙ c.record_at-s.ensures) refl refl
+returns-in-Ok-Whole c = tells (rw c.in-Ok-Whole.field-0-is at c.in-Ok-Whole.ensures) refl refl
 
-pub returns-in-Bad : goal.returns-in-Bad
+pub returns-in-Ok-Bad : goal.returns-in-Ok-Bad
 unfolding step_over
-returns-in-Bad c = tells (sym c.in-Bad.is ∙ c.record_at-s.ensures) refl refl
+returns-in-Ok-Bad c = tells (rw c.in-Ok-Bad.field-0-is at c.in-Ok-Bad.ensures) refl refl
 
-pub returns-in-Tail : goal.returns-in-Tail
+pub returns-in-Ok-Tail : goal.returns-in-Ok-Tail
 unfolding step_over
-returns-in-Tail c = tells (sym c.in-Tail.is ∙ c.record_at-s.ensures) refl refl
+returns-in-Ok-Tail c = tells (rw c.in-Ok-Tail.field-0-is at c.in-Ok-Tail.ensures) refl refl
 
-pub returns-in-NoBatch : goal.returns-in-NoBatch
+pub returns-in-Err : goal.returns-in-Err
 unfolding step_over
-returns-in-NoBatch c = tells (sym c.in-NoBatch.is ∙ c.record_at-s.ensures) refl refl
+returns-in-Err c = tells c.in-Err.ensures refl refl

@@ -19,17 +19,17 @@ returns-then-n-ne0 c = closes_early c.close_number-d.ensures c.if-n-ne0.true
 pub put_header-r-requires : goal.put_header-r-requires
 put_header-r-requires c = (left (goal.at.put_header-r-requires c).Else-n-ne0).most
 
-pub returns-in_ok : goal.returns-in_ok
-returns-in_ok c =
-    leaves_closed (left (goal.at.returns-in_ok c).Else-n-ne0) (c.put_header-r.ensures _) c.in_ok.is
+pub returns-in-Ok : goal.returns-in-Ok
+returns-in-Ok c =
+    leaves_closed (left (goal.at.returns-in-Ok c).Else-n-ne0) (c.put_header-r.ensures _) c.in-Ok.is
 
-pub returns-in-Damaged : goal.returns-in-Damaged
-returns-in-Damaged c =
-    leaves_refused (left (goal.at.returns-in-Damaged c).Else-n-ne0) (c.put_header-r.ensures _) (ap closed_number c.in-Damaged.is) (λ e. omega arith)
+pub returns-in-Err-Damaged : goal.returns-in-Err-Damaged
+returns-in-Err-Damaged c =
+    leaves_refused (left (goal.at.returns-in-Err-Damaged c).Else-n-ne0) (c.put_header-r.ensures _) (ap closed_number c.in-Err-Damaged.is) (λ e. omega arith)
 
-pub returns-in-NoRoom : goal.returns-in-NoRoom
-returns-in-NoRoom c =
-    leaves_refused (left (goal.at.returns-in-NoRoom c).Else-n-ne0) (c.put_header-r.ensures _) (ap closed_number c.in-NoRoom.is) (λ e. omega arith)
+pub returns-in-Err-NoRoom : goal.returns-in-Err-NoRoom
+returns-in-Err-NoRoom c =
+    leaves_refused (left (goal.at.returns-in-Err-NoRoom c).Else-n-ne0) (c.put_header-r.ensures _) (ap closed_number c.in-Err-NoRoom.is) (λ e. omega arith)
 
 pub overflow_sub-result : goal.overflow_sub-result
 overflow_sub-result c = (left (goal.at.overflow_sub-result c).Else-n-ne0).depth

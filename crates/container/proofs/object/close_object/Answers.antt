@@ -9,6 +9,7 @@ use Rattle.metadata.specs.Names.{names_of}
 use Rattle.container.specs.Close.{object_front}
 use Rattle.container.proofs.HeaderLaws.{Inside, inside, fronts, closes_damaged, closes_none, closes_done}
 use Rattle.container.proofs.ObjectLaws.{object_size, object_front_lem, freed_sorted}
+use Rattle.container.proofs.PartLaws.{sorted_part}
 use Rattle.container.proofs.object.close_object.Goals as goal
 use Rattle.container.proofs.object.close_object.Goals.{After-len-header, Else-is_outside, Then-fits}
 
@@ -48,11 +49,12 @@ returns-then-fits c =
     let a = c.args in
     let i = tested (goal.at.returns-then-fits c).Else-is_outside in
     let f = c.fits.ensures in
-    let h = object_front_lem a.f.floor (names_of a.m a.text.now a.ends.now) a.f.from a.f.to _ _ _ _ _ c.sort.ensures i.range (omega arith) c.write.ensures in
+    let sorted = sorted_part _ a.f.from a.f.to a.entries.now i.range (omega (arith, i.held)) c.sort.ensures in
+    let h = object_front_lem a.f.floor (names_of a.m a.text.now a.ends.now) a.f.from a.f.to _ _ _ _ _ sorted i.range (omega arith) c.write.ensures in
     record {
       header = closes_done _ _ _ _ _ c.is_outside.ensures c.if-is_outside.false (size (goal.at.returns-then-fits c).After-len-header) f c.if-fits.true
           (fronts _ _ _ _ _ i.order (size (goal.at.returns-then-fits c).After-len-header) f c.if-fits.true c.shift_within.ensures h);
-      entries_left = freed_sorted _ _ _ c.sort.ensures;
+      entries_left = freed_sorted _ _ _ sorted;
     }
 
 pub returns-else-fits : goal.returns-else-fits

@@ -1,3 +1,4 @@
+use Prim.Native.Nat.{◌/◌}
 use lib.ListN.{length}
 use Rattle.metadata.specs.Names.{names_of}
 use Rattle.container.specs.Sort.{sorted_in}
@@ -5,4 +6,5 @@ use Rattle.container.proofs.ObjectLaws.{Sorts}
 use Rattle.container.proofs.object.sort.Given as goal
 
 abbrev pub invariant-loop-j : goal.invariant-loop-j
-invariant-loop-j l = Sorts (names_of l.m l.text l.ends) (sorted_in (names_of l.m l.text l.ends) l.from l.to l.initial.entries) l.from l.to (length l.initial.entries) l.entries l.j
+invariant-loop-j l =
+    Sorts (names_of l.m l.text l.ends) (sorted_in (names_of l.m l.text l.ends) 0 (length l.initial.entries / 2) l.initial.entries) 0 (length l.initial.entries / 2) (length l.initial.entries) l.entries l.j

@@ -7,7 +7,7 @@ ghost use Rattle.actions.specs.Actions.{own_of};
 
 use calendar::civil::{Civil, variant_of};
 use calendar::date::OutOfCalendar;
-use packed_decimal::read::PackedVariant;
+use packed_decimal::read::PackedError;
 use value::variant::Variant;
 
 // The number is 0 where it has none; else the variant is null, which nothing stores.
@@ -32,17 +32,13 @@ pub fn civil_own(x: Civil) -> Own
 pub fn packed_own(bytes: &[u8], scale: u8) -> Own
     ensures { result ≡ own_of (packed_rows bytes.now scale) (packed_variant bytes.now scale) }
 {
-    let s = packed_decimal::read::variant_of(bytes, scale);
-    match s {
-        PackedVariant::Stored(v) => Own {
-            variant: v,
-            number: 0,
-        },
-        PackedVariant::NotPacked => Own {
+    match packed_decimal::read::variant_of(bytes, scale) {
+        Ok(variant) => Own { variant, number: 0 },
+        Err(PackedError::NotPacked) => Own {
             variant: Variant::Null,
             number: 18,
         },
-        PackedVariant::OutOfRange => Own {
+        Err(PackedError::OutOfRange) => Own {
             variant: Variant::Null,
             number: 7,
         },

@@ -2,7 +2,7 @@
 ghost use Rattle.encoding.specs.Signed.{whole};
 ghost use Rattle.ffi.specs.Packed.{WritesPackedWords};
 
-use packed_decimal::write::{PackedWritten, write_packed_decimal};
+use packed_decimal::write::{WriteError, write_packed_decimal};
 
 // The shortest packed form of high * 2^64 + low at the start of `out`, its length in `written`; 7 where the magnitude or the scale is too
 // large, then 14 where `out` is too short. A refused call leaves both.
@@ -16,13 +16,12 @@ pub extern "C" fn variant_write_packed_decimal(
 ) -> u8
     ensures { WritesPackedWords result (whole high low) scale out.old out.new written.old written.new }
 {
-    let p = write_packed_decimal(high, low, scale, out);
-    match p {
-        PackedWritten::Written(n) => {
+    match write_packed_decimal(high, low, scale, out) {
+        Ok(n) => {
             *written = n;
             0
         }
-        PackedWritten::OutOfRange => 7,
-        PackedWritten::NoRoom => 14,
+        Err(WriteError::OutOfRange) => 7,
+        Err(WriteError::NoRoom) => 14,
     }
 }

@@ -1,5 +1,4 @@
 -- Laws about the definitions of specs/, for the proofs here and in the crates above.
-pub mod WideLaws
 pub mod StoredLaws
 pub mod ReadLaws
 pub mod WriteLaws

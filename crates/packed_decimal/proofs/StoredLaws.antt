@@ -13,8 +13,6 @@ use Rattle.value.specs.declared.decimal.VariantDecimal16.{VariantDecimal16}
 use Rattle.value.specs.declared.variant.Variant.TheVariants.{Decimal4, Decimal8, Decimal16}
 use Rattle.encoding.specs.Signed.{whole}
 use Rattle.encoding.proofs.SignedLaws.{whole_natural, whole_negative}
-use Rattle.packed_decimal.specs.declared.wide.Wide.{Wide}
-use Rattle.packed_decimal.specs.Wide.{value_of}
 use Rattle.packed_decimal.specs.PackedDecimal.{in_halves, signed, smallest}
 
 -- ---- a magnitude with a sign
@@ -114,16 +112,3 @@ pub smallest_4 : (scale : ℕ) (t : Bool) (n : ℕ) → n ≤ 10 ^ 9 - 1
     → Decimal4 (record { integer = signed t n; scale = scale }) ≡ smallest scale (signed t n)
 unfolding smallest
 smallest_4 scale t n h = rw (abs_signed t n, le-leb n (10 ^ 9 - 1) h)
-
--- where decimal8 holds it, the number is its low half
-pub record LowOnly (w : Wide) : Type 0 where
-  pub few : value_of w ≤ 10 ^ 18 - 1
-  pub is : w.low ≡ value_of w
-  pub fits : value_of w < 2 ^ 63
-  pub more : 10 ^ 9 - 1 < w.low → 10 ^ 9 - 1 < value_of w
-  pub less : w.low ≤ 10 ^ 9 - 1 → (value_of w ≤ 10 ^ 9 - 1) × (value_of w < 2 ^ 31)
-
-pub low_only : (w : Wide) {t : Bool} → t ≡ ltb (10 ^ 18 - 1) (value_of w) → t ≡ false → LowOnly w
-low_only w e f =
-    let h = ltb-false (10 ^ 18 - 1) (value_of w) (sym e ∙ f) in
-    record { few = h; is = omega arith; fits = omega arith; more = λ l. omega arith; less = λ l. (omega arith, omega arith) }

@@ -21,7 +21,8 @@ use Rattle.encoding.proofs.SignedLaws.{sign, by_sign, by_no_sign, whole_natural,
 use Rattle.encoding.proofs.SliceLaws.{fits_within, write_none}
 use Rattle.packed_decimal.specs.PackedDecimal.{byte_of, pairs, digit_pairs, packed_bytes, sign_of}
 use Rattle.packed_decimal.specs.Calls.{WritesPacked, too_large}
-use Rattle.packed_decimal.specs.declared.write.PackedWritten.TheVariants.{Written, OutOfRange, NoRoom}
+use Rattle.std.specs.Prelude.{Ok, Err}
+use Rattle.packed_decimal.specs.declared.write.WriteError.TheVariants.{OutOfRange, NoRoom}
 use Rattle.packed_decimal.proofs.ReadLaws.{neither}
 
 -- ---- the pairs
@@ -42,8 +43,8 @@ pub record Splits (n u e d : ℕ) : Type 0 where
   pub high : e < 10
   pub low : d < 10
 
-pub splits : {n t u e d : ℕ} → (t * 10 + d ≡ n) × (d < 10) → (u * 10 + e ≡ t) × (e < 10) → Splits n u e d
-splits p q = record { is = (let a = p.0 in let b = q.0 in omega arith); high = q.1; low = p.1 }
+pub splits : (n : ℕ) → Splits n (n / 100) (n / 10 % 10) (n % 10)
+splits n = record { is = omega arith; high = omega arith; low = omega arith }
 
 pub splits_less : {n u e d : ℕ} → Splits n u e d → 0 < n → u < n
 splits_less s z = omega arith
@@ -81,12 +82,6 @@ no_pairs n h = go (digit_pairs n) h
     go (p ∷ ps) h = absurd (omega arith)
 
 -- ---- counted
-
-pub not_zero : {t : Bool} (n : ℕ) → t ≡ eqb n 0 → t ≡ false → 0 < n
-not_zero {t} n e h = let z = eqb-false n 0 (sym e ∙ h) in omega arith
-
-pub zero_left : {t : Bool} (n : ℕ) → t ≡ eqb n 0 → t ≡ true → n ≡ 0
-zero_left {t} n e h = eqb-true n 0 (sym e ∙ h)
 
 -- the pairs of n are still to be counted
 pub record Counts (total n count : ℕ) : Type 0 where
@@ -193,7 +188,7 @@ module _ {z : ℤ} {scale n : ℕ} {t : Bool} (w : Weighed z scale n t) where
   row_seven : t ≡ too_large scale z
   row_seven = w.test ∙ rw w.is
 
-  pub too_large_back : (out : List ℕ) → t ≡ true → WritesPacked z scale out OutOfRange out
+  pub too_large_back : (out : List ℕ) → t ≡ true → WritesPacked z scale out (Err OutOfRange) out
   unfolding first
   too_large_back out f = let g = sym row_seven ∙ f in record { number = rw g; size = rw g; bytes = rw g }
 
@@ -229,7 +224,7 @@ module _ {z : ℤ} {scale rest digit count : ℕ} {out : List ℕ} {r : Bool} (w
   row_fourteen : not (fits 0 (length (packed_bytes z)) (length out)) ≡ not r
   row_fourteen = rw (← form_size, ← w.test)
 
-  pub no_room_back : r ≡ false → WritesPacked z scale out NoRoom out
+  pub no_room_back : r ≡ false → WritesPacked z scale out (Err NoRoom) out
   unfolding first
   no_room_back g =
       let a = w.formed.clear in
@@ -240,7 +235,7 @@ module _ {z : ℤ} {scale rest digit count : ℕ} {out : List ℕ} {r : Bool} (w
   place g = let h = fits_within 0 (count + 1) (length out) w.test g in omega arith
 
   pub written_back : {b : ℕ} {after : List ℕ} → r ≡ true → b ≡ byte_of digit (sign_of z)
-      → after ≡ write 0 (digit_pairs rest ++ (b ∷ [])) out → WritesPacked z scale out (Written (count + 1)) after
+      → after ≡ write 0 (digit_pairs rest ++ (b ∷ [])) out → WritesPacked z scale out (Ok (count + 1)) after
   unfolding first
   written_back g k j =
       let a = w.formed.clear in

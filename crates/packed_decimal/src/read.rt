@@ -1,35 +1,36 @@
 // The scalar that is stored for packed decimal.
-ghost use Rattle.std.specs.Prelude.{◌≡◌, false, ◌-◌, ◌/◌, ◌%◌, ◌^◌, ◌≤◌, ◌<◌, min, length};
+ghost use Rattle.std.specs.Prelude.{◌≡◌, ◌||◌, ◌+◌, ◌-◌, ◌*◌, ◌/◌, ◌%◌, ◌^◌, ◌≤◌, ◌<◌, min, ltb, length};
+ghost use Rattle.std.specs.List.{fold, list_any};
 ghost use Rattle.packed_decimal.specs.PackedDecimal.{digits, digit_above9, magnitude, not_packed, sign};
 ghost use Rattle.packed_decimal.specs.PackedDecimal.{in_halves, smallest};
 ghost use Rattle.packed_decimal.specs.PackedDecimal.{signed as signed_of};
 ghost use Rattle.packed_decimal.specs.Calls.{ReadsPacked};
-ghost use Rattle.packed_decimal.specs.Wide.{value_of, limit};
+ghost use Rattle.packed_decimal.specs.Capped.{limit, with_pair};
 
-use crate::wide::{Wide, exceeds, too_large, with_digit};
+use crate::too_large;
 use value::decimal::{VariantDecimal4, VariantDecimal8, VariantDecimal16};
 use value::variant::Variant;
 
-#[derive(Clone, Copy)]
-pub enum PackedVariant {
-    Stored(Variant),
+// Why no scalar is stored: 18 or 7.
+#[derive(Clone, Copy, PartialEq, Eq, Debug)]
+pub enum PackedError {
     NotPacked,
     OutOfRange,
 }
 
-// The smallest decimal that holds the number, or 18, or 7.
-pub fn variant_of(bytes: &[u8], scale: u8) -> PackedVariant
+// The smallest decimal that holds the number.
+pub fn variant_of(bytes: &[u8], scale: u8) -> Result<Variant, PackedError>
     ensures { ReadsPacked bytes.now scale result }
 {
     if is_not_packed(bytes) {
-        return PackedVariant::NotPacked;
+        return Err(PackedError::NotPacked);
     }
-    let w = digits_magnitude(bytes);
-    if too_large(w, scale) {
-        return PackedVariant::OutOfRange;
+    let n = digits_magnitude(bytes);
+    if too_large(n, scale) {
+        return Err(PackedError::OutOfRange);
     }
     let minus = sign_of(bytes) == 0xD;
-    PackedVariant::Stored(smallest(minus, w, scale))
+    Ok(smallest(minus, n, scale))
 }
 
 // Number 18's condition.
@@ -46,19 +47,19 @@ fn is_not_packed(bytes: &[u8]) -> bool
     has_digit_above_9(bytes) | !((s == 0xC) | (s == 0xF) | (s == 0xD))
 }
 
-fn high_half(b: u8) -> u64
+fn high_half(b: u8) -> u8
     ensures { result ≡ b / 16 }
 {
-    (b >> 4) as u64
+    b >> 4
 }
 
-fn low_half(b: u8) -> u64
+fn low_half(b: u8) -> u8
     ensures { result ≡ b % 16 }
 {
-    (b & 0xf) as u64
+    b & 0xf
 }
 
-fn sign_of(bytes: &[u8]) -> u64
+fn sign_of(bytes: &[u8]) -> u8
     requires { 0 < length bytes.now }
     ensures { result ≡ sign bytes.now }
 {
@@ -70,53 +71,52 @@ fn has_digit_above_9(bytes: &[u8]) -> bool
     ensures { result ≡ digit_above9 (digits bytes.now) }
 {
     let last = bytes.len() - 1;
-    let mut i = 0;
-    while i < last {
-        if (9 < high_half(bytes[i])) | (9 < low_half(bytes[i])) {
-            return true;
-        }
-        i += 1;
-    }
-    9 < high_half(bytes[last])
+    pairs_above_9(&bytes[..last]) | (9 < high_half(bytes[last]))
+}
+
+fn pairs_above_9(pairs: &[u8]) -> bool
+    ensures { result ≡ list_any (λ b. ltb 9 (b / 16) || ltb 9 (b % 16)) pairs.now }
+{
+    pairs.iter().any(|b| (9 < *b / 16) | (9 < *b % 16))
 }
 
 // The number that the digits make, or the limit where they make more.
-fn digits_magnitude(bytes: &[u8]) -> Wide
-    requires { (0 < length bytes.now) × (digit_above9 (digits bytes.now) ≡ false) }
-    ensures { value_of result ≡ min (magnitude bytes.now) limit }
+fn digits_magnitude(bytes: &[u8]) -> u128
+    requires { 0 < length bytes.now }
+    ensures { result ≡ min (magnitude bytes.now) limit }
 {
     let last = bytes.len() - 1;
-    let mut w = Wide { high: 0, low: 0 };
-    let mut i = 0;
-    while i < last {
-        let v = with_digit(w, high_half(bytes[i]));
-        w = with_digit(v, low_half(bytes[i]));
-        i += 1;
-    }
-    with_digit(w, high_half(bytes[last]))
+    with_digit(pairs_magnitude(&bytes[..last]), high_half(bytes[last]))
 }
 
-fn smallest(negative: bool, w: Wide, scale: u8) -> Variant
-    requires { value_of w ≤ 10 ^ 38 - 1 }
-    ensures { result ≡ smallest scale (signed_of negative (value_of w)) }
+fn pairs_magnitude(pairs: &[u8]) -> u128
+    ensures { result ≡ fold with_pair 0 pairs.now }
 {
-    let most8 = Wide {
-        high: 0,
-        low: 999_999_999_999_999_999,
-    };
-    if exceeds(w, most8) {
-        return Variant::Decimal16(decimal16(negative, w, scale));
+    pairs
+        .iter()
+        .fold(0, |n, b| with_digit(with_digit(n, high_half(*b)), low_half(*b)))
+}
+
+fn with_digit(n: u128, digit: u8) -> u128
+    ensures { result ≡ min (n * 10 + digit) limit }
+{
+    n.saturating_mul(10).saturating_add(u128::from(digit))
+}
+
+fn smallest(negative: bool, n: u128, scale: u8) -> Variant
+    requires { n ≤ 10 ^ 38 - 1 }
+    ensures { result ≡ smallest scale (signed_of negative n) }
+{
+    if 999_999_999_999_999_999 < n {
+        return Variant::Decimal16(decimal16(negative, n, scale));
     }
-    let integer = signed(negative, w.low);
-    if 999_999_999 < w.low {
-        return Variant::Decimal8(VariantDecimal8 {
-            integer: integer,
-            scale: scale,
-        });
+    let integer = signed(negative, n as u64);
+    if 999_999_999 < n {
+        return Variant::Decimal8(VariantDecimal8 { integer, scale });
     }
     Variant::Decimal4(VariantDecimal4 {
         integer: integer as i32,
-        scale: scale,
+        scale,
     })
 }
 
@@ -124,27 +124,27 @@ fn signed(negative: bool, n: u64) -> i64
     requires { n < 2 ^ 63 }
     ensures { result ≡ signed_of negative n }
 {
-    if negative {
-        return 0 - (n as i64);
-    }
-    n as i64
+    if negative { 0 - (n as i64) } else { n as i64 }
 }
 
 // -(high * 2^64 + low) is -(high + 1) * 2^64 + (2^64 - low) where low is not 0.
-fn decimal16(negative: bool, w: Wide, scale: u8) -> VariantDecimal16
-    requires { w.high < 2 ^ 63 - 1 }
-    ensures { result ≡ in_halves scale (signed_of negative (value_of w)) }
+fn decimal16(negative: bool, n: u128, scale: u8) -> VariantDecimal16
+    requires { n ≤ 10 ^ 38 - 1 }
+    ensures { result ≡ in_halves scale (signed_of negative n) }
 {
-    if negative & (0 < w.low) {
-        return VariantDecimal16 {
-            high: signed(true, w.high + 1),
-            low: 0xffff_ffff_ffff_ffff - (w.low - 1),
-            scale: scale,
-        };
-    }
-    VariantDecimal16 {
-        high: signed(negative, w.high),
-        low: w.low,
-        scale: scale,
+    let high = (n / 0x1_0000_0000_0000_0000) as u64;
+    let low = (n % 0x1_0000_0000_0000_0000) as u64;
+    if negative & (0 < low) {
+        VariantDecimal16 {
+            high: signed(true, high + 1),
+            low: 0xffff_ffff_ffff_ffff - (low - 1),
+            scale,
+        }
+    } else {
+        VariantDecimal16 {
+            high: signed(negative, high),
+            low,
+            scale,
+        }
     }
 }

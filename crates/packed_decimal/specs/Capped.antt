@@ -1,0 +1,10 @@
+-- For the code: the number that digits make, which stops growing at the largest of 128 bits.
+use Rattle.std.specs.Prelude.{ℕ, ◌+◌, ◌-◌, ◌*◌, ◌/◌, ◌%◌, ◌^◌, min}
+
+-- above every decimal
+abbrev pub limit : ℕ
+limit = 2 ^ 128 - 1
+
+-- n and the two digits of a byte
+abbrev pub with_pair : ℕ → ℕ → ℕ
+with_pair n b = min (min (n * 10 + b / 16) limit * 10 + b % 16) limit

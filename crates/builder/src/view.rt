@@ -8,7 +8,6 @@ ghost use Rattle.builder.specs.Calls.{Makes, answer_of, fresh_of};
 use crate::{Answer, Called};
 use actions::Moved;
 use marks::{NUMBERS, marks_fit};
-use metadata::{metadata_size, num_field_names};
 use refusals::{make_number, saturating_sub};
 use semantics::{Builder, Container, Counts, Mark, View, fresh_counts, no_container};
 
@@ -177,8 +176,8 @@ fn fits_at(marks: &[usize; NUMBERS], d: usize, k: Container, n: usize, c: Counts
         return true;
     }
     let m = c.dictionary;
-    let names = num_field_names(m);
-    let text = metadata_size(m);
+    let names = m.num_field_names();
+    let text = m.metadata_size();
     let present = Mark {
         value: c.value,
         names: names,

@@ -7,7 +7,7 @@ ghost use Rattle.ffi.specs.Words.{builder_of, container_from, containers_of, con
 use crate::WORDS;
 use actions::Moved;
 use marks::{NUMBERS, marks_fit};
-use metadata::{from_parts, metadata_size, num_field_names};
+use metadata::MetadataBuilder;
 use refusals::saturating_sub;
 use semantics::{Container, Counts, Mark, ParentEntry, View, no_container};
 
@@ -95,8 +95,8 @@ pub(crate) fn put_counts(words: &mut [usize; WORDS], c: Counts)
     words[0] = c.value;
     words[1] = c.entries;
     words[2] = c.depth;
-    words[3] = num_field_names(m);
-    words[4] = metadata_size(m);
+    words[3] = m.num_field_names();
+    words[4] = m.metadata_size();
     words[5] = word(c.unique);
     words[6] = word(c.finished);
     words[7] = c.floor;
@@ -140,7 +140,7 @@ pub(crate) fn put_elements(words: &mut [usize; WORDS], d: usize, n: usize)
 pub(crate) fn counts_of(words: &[usize; WORDS]) -> Counts
     ensures { result ≡ counts_of words.now }
 {
-    let m = from_parts(words[3], words[4]);
+    let m = MetadataBuilder::from_parts(words[3], words[4]);
     Counts {
         value: words[0],
         entries: words[1],
@@ -356,8 +356,8 @@ fn mark_now(c: Counts, n: usize, unique: bool) -> Mark
     let m = c.dictionary;
     Mark {
         value: c.value,
-        names: num_field_names(m),
-        text: metadata_size(m),
+        names: m.num_field_names(),
+        text: m.metadata_size(),
         entries: c.entries,
         undo: c.undo,
         count: n,

@@ -5,7 +5,7 @@
 use container::{Closed, Entry, Frame, close_object, put_entry, search_entries};
 use encoding::slices::write_slice;
 use list::close_list;
-use metadata::{MetadataBuilder, add_field_name};
+use metadata::MetadataBuilder;
 use std::io;
 use std::io::Write;
 
@@ -86,7 +86,7 @@ fn no_fields<W: Write>(to: &mut W, label: &[u8]) -> io::Result<()> {
     let closed = close_object(
         frame(0, 0),
         most,
-        metadata::new(),
+        MetadataBuilder::new(),
         b"",
         &[],
         &mut value,
@@ -103,7 +103,7 @@ fn object<W: Write>(to: &mut W, label: &[u8], id: usize) -> io::Result<()> {
     let closed = close_object(
         frame(1, 1),
         most,
-        metadata::new(),
+        MetadataBuilder::new(),
         b"",
         &[],
         &mut value,
@@ -115,7 +115,7 @@ fn object<W: Write>(to: &mut W, label: &[u8], id: usize) -> io::Result<()> {
 fn two_fields<W: Write>(to: &mut W, label: &[u8]) -> io::Result<()> {
     let mut text = [0u8; 2];
     let mut ends = [0usize; 2];
-    let b = with(metadata::new(), &mut text, &mut ends, b"b");
+    let b = with(MetadataBuilder::new(), &mut text, &mut ends, b"b");
     let ba = with(b, &mut text, &mut ends, b"a");
     let mut value = [0u8; 64];
     let mut entries = [0usize; 4];
@@ -135,7 +135,9 @@ fn two_fields<W: Write>(to: &mut W, label: &[u8]) -> io::Result<()> {
 }
 
 fn with(m: MetadataBuilder, text: &mut [u8], ends: &mut [usize], name: &[u8]) -> MetadataBuilder {
-    add_field_name(m, text, ends, name).metadata
+    let mut next = m;
+    let _ = next.add_field_name(text, ends, name);
+    next
 }
 
 // The largest id of the first n entries.

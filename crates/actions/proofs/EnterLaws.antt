@@ -11,7 +11,8 @@ use borrow.Author.Tests.{eq-eqb, ne_eqb, leb-false, leb-true, lt-ltb, not-false,
 use Rattle.encoding.specs.Rows.{first}
 use Rattle.encoding.specs.Slices.{counted, fits}
 use Rattle.metadata.specs.declared.MetadataBuilder.{MetadataBuilder}
-use Rattle.metadata.specs.declared.Added.{Added}
+use Rattle.std.specs.Prelude.{Result}
+use Rattle.metadata.specs.declared.Full.{Full}
 use Rattle.metadata.specs.Names.{Name}
 use Rattle.metadata.specs.Calls.{Adds, has_room}
 use Rattle.container.specs.Entries.{Noted as Put, Notes, entry_at, room_for}
@@ -38,8 +39,8 @@ refuses {v} {l} {c} {n} e z = let z' = ne_eqb (number_of v l c) 0 (λ p. z (e �
 -- ---- a name
 
 -- one that is new, added
-pub registers_new : {new : Bool} {m : MetadataBuilder} {text ends : List ℕ} {name : Name} {r : Added} {textAfter endsAfter : List ℕ}
-    → new ≡ true → Adds m text ends name r textAfter endsAfter → Registers new m text ends name r.metadata textAfter endsAfter
+pub registers_new : {new : Bool} {m : MetadataBuilder} {text ends : List ℕ} {name : Name} {r : Result ℕ Full} {next : MetadataBuilder} {textAfter endsAfter : List ℕ}
+    → new ≡ true → Adds m text ends name r next textAfter endsAfter → Registers new m text ends name next textAfter endsAfter
 registers_new e a = record { metadata = rw e a.metadata; text_left = rw e a.text_left; ends_left = rw e a.ends_left }
 
 -- what a name's adding leaves, where the names are not full for it

@@ -9,8 +9,9 @@ use lib.ListN.{length}
 use borrow.Author.Tests.{ne_eqb, not-false}
 use Rattle.encoding.specs.Rows.{first}
 use Rattle.encoding.specs.Slices.{counted}
-use Rattle.metadata.specs.declared.Finished.{Finished}
-use Rattle.metadata.specs.declared.Finished.TheVariants.{Damaged, NoRoom, Written}
+use Rattle.std.specs.Prelude.{Result, Ok, Err}
+use Rattle.metadata.specs.declared.FinishError.{FinishError}
+use Rattle.metadata.specs.declared.FinishError.TheVariants.{Damaged, NoRoom}
 use Rattle.metadata.specs.Names.{intact, field_names, text_size}
 use Rattle.metadata.specs.Bytes.{size_of}
 use Rattle.metadata.specs.Calls.{FinishesDictionary, finish_number, finishes}
@@ -91,12 +92,12 @@ written_intact : (v : View) (l : Storage) (out : List ℕ) → finishes v.counts
 unfolding finishes
 written_intact v l out e = not-false _ (past (not (intact v.counts.dictionary l.text l.ends)) 0 _ e).0
 
-module _ {v : View} {l : Storage} {out : List ℕ} {r : Finished} {left : List ℕ} (k : Finishable v l out) (f : FinishesDictionary v.counts.floor v.counts.dictionary l.text l.ends out r left) where
+module _ {v : View} {l : Storage} {out : List ℕ} {r : Result ℕ FinishError} {left : List ℕ} (k : Finishable v l out) (f : FinishesDictionary v.counts.floor v.counts.dictionary l.text l.ends out r left) where
   same_number : {n : ℕ} → finish_number r ≡ n → finishes v.counts.floor v.counts.dictionary l.text l.ends out ≡ n
   same_number e = sym f.number ∙ e
 
   -- carried out
-  pub ends_written : {size : ℕ} → r ≡ Written size
+  pub ends_written : {size : ℕ} → r ≡ Ok size
       → Ends v l out (record { counts = record { value = v.counts.value; entries = v.counts.entries; undo = v.counts.undo; depth = v.counts.depth; dictionary = v.counts.dictionary; unique = v.counts.unique; finished = true; floor = v.counts.floor }; number = 0; written = size }) left
   unfolding finished dictionary_of
   ends_written {size} e =
@@ -111,9 +112,9 @@ module _ {v : View} {l : Storage} {out : List ℕ} {r : Finished} {left : List �
       rw (f.bytes, z, ne_eqb n 0 q) (ends_refused (sym (k.number ∙ z)) q)
 
   -- a name end falls
-  pub ends_damaged : r ≡ Damaged → Ends v l out (record { counts = v.counts; number = 1; written = 0 }) left
+  pub ends_damaged : r ≡ Err Damaged → Ends v l out (record { counts = v.counts; number = 1; written = 0 }) left
   ends_damaged e = ends_none (ap finish_number e) (λ h. omega arith)
 
   -- no room
-  pub ends_full : r ≡ NoRoom → Ends v l out (record { counts = v.counts; number = 16; written = 0 }) left
+  pub ends_full : r ≡ Err NoRoom → Ends v l out (record { counts = v.counts; number = 16; written = 0 }) left
   ends_full e = ends_none (ap finish_number e) (λ h. omega arith)

@@ -5,7 +5,7 @@ ghost use Rattle.semantics.specs.Record.{storage_of};
 ghost use Rattle.actions.specs.Actions.{Ends};
 
 use crate::Ended;
-use metadata::Finished;
+use metadata::{FinishError, Names};
 use refusals::finish_number;
 use semantics::{Counts, View};
 
@@ -31,19 +31,24 @@ pub fn finish_over(
         };
     }
     let m = c.dictionary;
-    let r = metadata::finish(m, c.floor, text, ends, out);
+    let names = Names {
+        counts: m,
+        text,
+        ends,
+    };
+    let r = names.finish(c.floor, out);
     match r {
-        Finished::Damaged => Ended {
+        Err(FinishError::Damaged) => Ended {
             counts: c,
             number: 1,
             written: 0,
         },
-        Finished::NoRoom => Ended {
+        Err(FinishError::NoRoom) => Ended {
             counts: c,
             number: 16,
             written: 0,
         },
-        Finished::Written(size) => Ended {
+        Ok(size) => Ended {
             counts: Counts {
                 value: c.value,
                 entries: c.entries,

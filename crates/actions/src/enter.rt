@@ -161,11 +161,11 @@ fn with_name(
 ) -> MetadataBuilder
     ensures { Registers new m text.old ends.old name.now result text.new ends.new }
 {
+    let mut next = m;
     if new {
-        let a = metadata::add_field_name(m, text, ends, name);
-        return a.metadata;
+        let _ = next.add_field_name(text, ends, name);
     }
-    m
+    next
 }
 
 // The entry put, and the undo record; how the entry came about.

@@ -9,6 +9,7 @@ ghost use Rattle.actions.specs.Actions.{Fronts, Leaves};
 use crate::Moved;
 use container::{CloseError, Frame, close_object};
 use list::close_list;
+use metadata::Names;
 use refusals::close_number;
 use semantics::{Counts, View};
 
@@ -87,8 +88,12 @@ fn put_header(
             to: v.counts.entries,
             floor: v.counts.floor,
         };
-        let m = v.counts.dictionary;
-        return close_object(f, most, m, text, ends, value, entries);
+        let names = Names {
+            counts: v.counts.dictionary,
+            text,
+            ends,
+        };
+        return close_object(f, most, names, value, entries);
     }
     close_list(
         v.inner.value,

@@ -7,7 +7,7 @@ ghost use Rattle.actions.specs.Actions.{Returns, SetsMark, counts_at, entries_at
 use crate::unique::with_unique;
 use crate::{Marked, Returned};
 use container::undo_entries;
-use metadata::{from_parts, metadata_size, num_field_names};
+use metadata::MetadataBuilder;
 use refusals::{mark_number, return_number};
 use semantics::{Container, Counts, Mark, View};
 
@@ -46,8 +46,8 @@ fn new_mark(v: View) -> Mark
 {
     let c = v.counts;
     let m = c.dictionary;
-    let names = num_field_names(m);
-    let text = metadata_size(m);
+    let names = m.num_field_names();
+    let text = m.metadata_size();
     Mark {
         value: c.value,
         names: names,
@@ -115,7 +115,7 @@ pub fn return_over(
 fn counts_at(c: Counts, p: Mark) -> Counts
     ensures { result ≡ counts_at c p }
 {
-    let m = from_parts(p.names, p.text);
+    let m = MetadataBuilder::from_parts(p.names, p.text);
     Counts {
         value: p.value,
         entries: p.entries,

@@ -9,7 +9,6 @@ ghost use Rattle.actions.specs.Actions.{Leaves, Opens, child_of};
 
 use crate::enter::{Entered, enter_over, note};
 use crate::{Moved, Opened};
-use metadata::{metadata_size, num_field_names};
 use semantics::{Container, Counts, ParentEntry, View};
 
 pub fn register(
@@ -78,8 +77,8 @@ pub fn child(before: Counts, e: Entered, parent: ParentEntry, object: bool) -> C
     ensures { result ≡ child_of before e parent object }
 {
     let m = before.dictionary;
-    let names = num_field_names(m);
-    let text = metadata_size(m);
+    let names = m.num_field_names();
+    let text = m.metadata_size();
     Container {
         value: before.value,
         names: names,

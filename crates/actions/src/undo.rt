@@ -9,7 +9,7 @@ ghost use Rattle.actions.specs.Actions.{Leaves, entries_undone, siblings_back};
 
 use crate::Moved;
 use container::replace_offset;
-use metadata::from_parts;
+use metadata::MetadataBuilder;
 use refusals::{rollback_number, saturating_sub};
 use semantics::{Container, Counts, ParentEntry, View};
 
@@ -40,7 +40,7 @@ pub fn rollback_over(
     let below = 1 < c.depth;
     let records = records_left(below, k, parent);
     let count = entries_left(below, object, p, k.entries, d.place, entries);
-    let cut = from_parts(k.names, k.text);
+    let cut = MetadataBuilder::from_parts(k.names, k.text);
     Moved {
         counts: Counts {
             value: k.value,

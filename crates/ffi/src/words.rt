@@ -6,7 +6,7 @@ ghost use Rattle.ffi.specs.Words.{builder_of, container_from, container_word, co
 use crate::WORDS;
 use actions::Moved;
 use marks::NUMBERS;
-use metadata::{from_parts, metadata_size, num_field_names};
+use metadata::MetadataBuilder;
 use records::Record;
 use semantics::{Container, Counts, ParentEntry, View, no_container};
 
@@ -24,7 +24,7 @@ impl Record for Words<'_> {
             value: words[0],
             entries: words[1],
             depth: words[2],
-            dictionary: from_parts(words[3], words[4]),
+            dictionary: MetadataBuilder::from_parts(words[3], words[4]),
             unique: words[5] != 0,
             finished: words[6] != 0,
             floor: words[7],
@@ -110,8 +110,8 @@ pub(crate) fn put_counts(words: &mut [usize; WORDS], c: Counts)
     words[0] = c.value;
     words[1] = c.entries;
     words[2] = c.depth;
-    words[3] = num_field_names(c.dictionary);
-    words[4] = metadata_size(c.dictionary);
+    words[3] = c.dictionary.num_field_names();
+    words[4] = c.dictionary.metadata_size();
     words[5] = usize::from(c.unique);
     words[6] = usize::from(c.finished);
     words[7] = c.floor;

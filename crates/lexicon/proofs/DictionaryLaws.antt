@@ -18,7 +18,7 @@ use Rattle.metadata.specs.Bytes.{joined, ends_from, first_byte, laid_out, dictio
 use Rattle.metadata.specs.Calls.{finishes}
 use Rattle.metadata.proofs.BytesLaws.{first_width, laid_out_read, ends_below, dictionary_size, length_names, length_joined_names, size_least}
 use Rattle.metadata.proofs.DictionaryLaws.{same_equal, equal_same}
-use Rattle.lexicon.specs.declared.Dictionary.TheVariants.{Names, Bad}
+use Rattle.std.specs.Prelude.{Ok, Err}
 use Rattle.lexicon.specs.Dictionary.{each_utf8, stored_numbers, each_below, holds, most_bytes, ReadsNames, width_in, mark_in, is_dictionary, dictionary_rows, dictionary_number, read_dictionary, name_in}
 
 -- both of two tests
@@ -133,7 +133,7 @@ pub number_19 : (d : List ℕ) → dictionary_number (read_dictionary d) ≡ fir
 unfolding read_dictionary first
 number_19 d = go (is_dictionary d)
   where
-    go : (t : Bool) → dictionary_number (cond t (Names (length (dictionary_names d))) Bad) ≡ cond (not t) 19 0
+    go : (t : Bool) → dictionary_number (cond t (Ok (length (dictionary_names d))) (Err (record {}))) ≡ cond (not t) 19 0
     go true = refl
     go false = refl
 

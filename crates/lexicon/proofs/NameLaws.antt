@@ -3,7 +3,7 @@ use mathlib.Core.Path.{◌≡◌, refl, sym, ◌∙◌, ap}
 use mathlib.Core.Bool.{Bool, true, false, ◌&&◌, and-false}
 use mathlib.Core.List.{List, [], ◌∷◌}
 use Prim.Native.Nat.{ℕ, zero, suc, ◌+◌, ◌-◌, ◌*◌, ◌≤◌, ◌<◌, min}
-use native.Mathlib.Nat.{mul-add, mul-suc, mul-zero, mul-le-mul_right}
+use native.Mathlib.Nat.{mul-add, mul-suc, mul-zero, sub-zero}
 use native.Mathlib.Omega.{arith}
 use lib.Dec.{eqb, leb}
 use lib.ListN.{length, take, drop, get_or, length-drop, get_or-eq_default}
@@ -11,10 +11,13 @@ use lib.Seq.{drop-drop, take_all}
 use borrow.Author.Tests.{le-leb, lt-leb}
 use Rattle.encoding.specs.Utf8.{utf8}
 use Rattle.measure.specs.Measure.{number_at, Numbered}
-use Rattle.metadata.specs.Names.{Name, ascending, sorted}
+use Rattle.std.specs.List.{list_all, range_with_len}
+use Rattle.metadata.specs.Names.{Name, ascending}
 use Rattle.metadata.specs.Bytes.{numbers, dictionary_names}
 use Rattle.metadata.proofs.BytesLaws.{risen_low}
 use Rattle.metadata.proofs.NameLaws.{cut_at}
+use Rattle.metadata.proofs.FinishLaws.{rises, rise_all}
+use Rattle.lexicon.specs.declared.stored.Stored.{Stored}
 use Rattle.lexicon.specs.Dictionary.{width_in, name_in, start_in, good_names}
 use Rattle.lexicon.proofs.ByteLaws.{length_numbers}
 use Rattle.lexicon.proofs.TestLaws.{count_in, ends_in, text_in, names_by, length_by, good_risen}
@@ -23,15 +26,16 @@ use Rattle.lexicon.proofs.TestLaws.{count_in, ends_in, text_in, names_by, length
 pub numbered : {d : List ℕ} {p w r : ℕ} → w ≤ 4 → Numbered d p (min w 4) r → r ≡ number_at d p w
 numbered {d} {p} {w} h n = let e : min w 4 ≡ w = omega arith in rw e at n.value
 
-pub count_read : {d : List ℕ} {w r : ℕ} → (w ≡ width_in d) × (w ≤ 4) → Numbered d 1 (min w 4) r → r ≡ count_in d
-count_read {d} {w} {r} e n = numbered e.1 n ∙ ap (number_at d 1) e.0
+-- what is kept of the bytes d
+module _ {d : List ℕ} (s : Stored) (e : s.bytes.now ≡ d) where
+  pub width_kept : s.width ≡ width_in d
+  width_kept = s.width_read ∙ ap width_in e
 
-pub width_none : (d : List ℕ) → length d ≡ 0 → (1 ≡ width_in d) × (1 ≤ 4)
-width_none d h = let e : get_or d 0 0 ≡ 0 = get_or-eq_default d 0 {n = 0} (omega arith) in (rw e, omega arith)
+  pub count_kept : s.count ≡ count_in d
+  count_kept = s.count_read ∙ (ap (number_at s.bytes.now 1) s.width_read ∙ ap count_in e)
 
--- places of numbers and text lie far below 2 ^ 64
-pub place_small : {w n : ℕ} → w ≤ 4 → n < 4294967296 → w * (n + 2) ≤ 4 * 4294967297
-place_small {w} {n} h k = omega (arith, mul-le-mul_right (n + 2) h)
+  pub offset_kept : {r : ℕ} → r ≡ number_at s.bytes.now (1 + s.width * 1) s.width → r ≡ number_at d (1 + s.width) s.width
+  offset_kept h = let m : s.width * 1 ≡ s.width = omega arith in rw (e, m) at h
 
 -- ---- a name by its id
 
@@ -77,23 +81,26 @@ name_part d w n id t s e ew en h et es ee =
 
 -- ---- the walk over the ends: those that are left decide
 
-pub record Walks (r : Bool) (d text : List ℕ) (w stop p at left : ℕ) : Type 0 where
-  pub same : good_names at (numbers w left (drop p d)) text ≡ r
-  pub room : p + w * left ≡ stop
+pub record Walks (r : Bool) (d text : List ℕ) (w n at i : ℕ) : Type 0 where
+  pub left : good_names at (numbers w (n - i) (drop (1 + w * (i + 2)) d)) text ≡ r
 
-pub walks_start : (d text : List ℕ) (w n start : ℕ) → start ≡ 1 + w * (n + 2) → Walks (good_names 0 (numbers w n (drop (1 + w + w) d)) text) d text w start (1 + w + w) 0 n
-walks_start d text w n start e = record { same = refl; room = omega (arith, mul-add w n 2) }
+pub walks_start : (d text : List ℕ) (w n : ℕ) → Walks (good_names 0 (numbers w n (drop (1 + w + w) d)) text) d text w n 0 0
+walks_start d text w n = let p : 1 + w * (0 + 2) ≡ 1 + w + w = omega (arith, mul-add w 0 2, mul-zero w) in record { left = rw (p, sub-zero) }
 
-module _ {r : Bool} {d text : List ℕ} {w stop p at left e : ℕ} (i : Walks r d text w stop p at left) (h : 0 < left) (f : e ≡ number_at d p w) where
-  pub walks_room : p + w + w * (left - 1) ≡ stop
-  walks_room = let k : left ≡ suc (left - 1) = omega arith in omega (arith, i.room, ap (λ x. w * x) k, mul-suc w (left - 1))
-
-  walks_next : (leb at e && (utf8 (take (e - at) (drop at text)) && good_names e (numbers w (left - 1) (drop (p + w) d)) text)) ≡ r
+module _ {r : Bool} {d text : List ℕ} {w n at i e : ℕ} (s : Walks r d text w n at i) (h : i < n) (f : e ≡ number_at d (1 + w * (i + 1 + 1)) w) where
+  walks_next : (leb at e && (utf8 (take (e - at) (drop at text)) && good_names e (numbers w (n - (i + 1)) (drop (1 + w * (i + 1 + 2)) d)) text)) ≡ r
   unfolding good_names numbers
-  walks_next = let k : left ≡ suc (left - 1) = omega arith in rw (f, ← drop-drop w p d) (rw k at i.same)
+  walks_next =
+      let k : n - i ≡ suc (n - (i + 1)) = omega arith in
+      let q : i + 1 + 1 ≡ i + 2 = omega arith in
+      let m : 1 + w * (i + 2) + w ≡ 1 + w * (i + 1 + 2) = omega (arith, mul-suc w (i + 2), ap (λ x. w * x) (m_at i)) in
+      rw (f, q, ← m, ← drop-drop w (1 + w * (i + 2)) d) (rw k at s.left)
+    where
+      m_at : (x : ℕ) → suc (x + 2) ≡ x + 1 + 2
+      m_at x = omega arith
 
-  pub walks_again : at ≤ e → utf8 (take (e - at) (drop at text)) ≡ true → Walks r d text w stop (p + w) e (left - 1)
-  walks_again l u = record { same = rw (le-leb at e l, u) at walks_next; room = walks_room }
+  pub walks_again : at ≤ e → utf8 (take (e - at) (drop at text)) ≡ true → Walks r d text w n e (i + 1)
+  walks_again l u = record { left = rw (le-leb at e l, u) at walks_next }
 
   pub walks_fall : e < at → false ≡ r
   walks_fall l = rw (lt-leb at e l) at walks_next
@@ -104,7 +111,7 @@ module _ {r : Bool} {d text : List ℕ} {w stop p at left e : ℕ} (i : Walks r 
   -- an end past the text
   pub walks_over : length text < e → false ≡ r
   walks_over l =
-      let g = good_over (numbers w (left - 1) (drop (p + w) d)) in
+      let g = good_over (numbers w (n - (i + 1)) (drop (1 + w * (i + 1 + 2)) d)) in
       sym (ap (λ t. leb at e && t) (and-false (utf8 (take (e - at) (drop at text)))) ∙ and-false (leb at e)) ∙ (rw g at walks_next)
     where
       good_over : (es : List ℕ) → good_names e es text ≡ false
@@ -114,9 +121,9 @@ module _ {r : Bool} {d text : List ℕ} {w stop p at left e : ℕ} (i : Walks r 
           go true q = absurd (omega (arith, risen_low e es (length text) (good_risen e es text q)))
           go false q = refl
 
-pub walks_end : {r : Bool} {d text : List ℕ} {w stop p at left : ℕ} → Walks r d text w stop p at left → left ≤ 0 → eqb at (length text) ≡ r
+pub walks_end : {r : Bool} {d text : List ℕ} {w n at i : ℕ} → Walks r d text w n at i → n ≤ i → eqb at (length text) ≡ r
 unfolding good_names numbers
-walks_end {left = left} i h = let k : left ≡ 0 = omega arith in rw k at i.same
+walks_end {n = n} {i = i} s h = let k : n - i ≡ 0 = omega arith in rw k at s.left
 
 -- the text is all that is left
 pub to_the_end : {r : Bool} (d es : List ℕ) (start : ℕ) → r ≡ good_names 0 es (take (length d - start) (drop start d)) → r ≡ good_names 0 es (drop start d)
@@ -126,12 +133,7 @@ to_the_end d es start e =
 
 -- ---- the order
 
-pub sorted_some : (ns : List Name) → 0 < length ns → sorted ns ≡ ascending ns
-unfolding sorted
-sorted_some [] h = absurd (omega arith)
-sorted_some (n ∷ ns) h = refl
-
-pub none_ascend : (ns : List Name) → length ns ≡ 0 → true ≡ ascending ns
+pub rise_any : (ns : List Name) → list_all (rises ns) (range_with_len 1 (length ns - 1)) ≡ ascending ns
 unfolding ascending
-none_ascend [] h = refl
-none_ascend (n ∷ ns) h = absurd (omega arith)
+rise_any [] = refl
+rise_any (n ∷ ns) = rise_all (n ∷ ns) (omega arith)

@@ -16,7 +16,7 @@ use Rattle.measure.specs.Measure.{number_at}
 use Rattle.metadata.specs.Names.{Name, cuts, risen, ascending}
 use Rattle.metadata.specs.Bytes.{joined, ends_from, first_byte, laid_out, numbers, names_in, dictionary_names}
 use Rattle.metadata.proofs.BytesLaws.{behind_first, layout_count, layout_zero, layout_ends, layout_text, layout_size, cuts_ends, length_cuts, joined_cuts, ends_cuts}
-use Rattle.lexicon.specs.declared.Dictionary.TheVariants.{Names, Bad}
+use Rattle.std.specs.Prelude.{Ok, Err}
 use Rattle.lexicon.specs.Dictionary.{each_utf8, stored_numbers, most_bytes, ReadsNames, width_in, mark_in, is_dictionary, read_dictionary, good_names}
 use Rattle.lexicon.proofs.ByteLaws.{below_drop, le_at, les_at, small_at, length_numbers, numbers_below}
 use Rattle.lexicon.proofs.DictionaryLaws.{both, with_both, below_each, held_parts, reads_width, reads_mark, reads_names, reads_is, is_reads}
@@ -275,10 +275,10 @@ module _ {d : List ℕ} {w n : ℕ} (ew : w ≡ width_in d) (en : n ≡ count_in
         good = sym (ends_there d w n ew en) ∙ (sym g ∙ gt);
       }
 
-pub read_names : (d : List ℕ) (n : ℕ) → is_dictionary d ≡ true → n ≡ length (dictionary_names d) → Names n ≡ read_dictionary d
+pub read_names : (d : List ℕ) (n : ℕ) → is_dictionary d ≡ true → n ≡ length (dictionary_names d) → Ok n ≡ read_dictionary d
 unfolding read_dictionary
 read_names d n h e = rw (h, e)
 
-pub read_bad : (d : List ℕ) → is_dictionary d ≡ false → Bad ≡ read_dictionary d
+pub read_bad : (d : List ℕ) → is_dictionary d ≡ false → Err (record {}) ≡ read_dictionary d
 unfolding read_dictionary
 read_bad d h = rw h

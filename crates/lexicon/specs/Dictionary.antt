@@ -1,13 +1,12 @@
 -- document 02, A6, the pair's first half: "a whole dictionary of the stated layout, unused bits zero, UTF-8 names, the mark only if names
 -- ascend strictly". The layout is the writer's, at any width and with either mark; there is no reader in it.
-use Rattle.std.specs.Prelude.{◌≡◌, Bool, true, cond, not, ◌&&◌, ◌||◌, List, [], ◌∷◌, ℕ, zero, suc, ◌+◌, ◌-◌, ◌*◌, ◌^◌, ◌/◌, ◌%◌, ◌≤◌, eqb, leb, ltb, drop, get_or, length, take}
+use Rattle.std.specs.Prelude.{◌≡◌, Bool, true, cond, not, ◌&&◌, ◌||◌, List, [], ◌∷◌, ℕ, zero, suc, ◌+◌, ◌-◌, ◌*◌, ◌^◌, ◌/◌, ◌%◌, ◌≤◌, eqb, leb, ltb, drop, get_or, length, take, Result, Ok, Err}
 use Rattle.encoding.specs.Rows.{Row, row}
 use Rattle.encoding.specs.Utf8.{utf8}
 use Rattle.measure.specs.Measure.{number_at}
 use Rattle.metadata.specs.Names.{Name, same, ascending}
 use Rattle.metadata.specs.Bytes.{ends_from, laid_out, dictionary_names}
-use Rattle.lexicon.specs.declared.Dictionary.{Dictionary}
-use Rattle.lexicon.specs.declared.Dictionary.TheVariants.{Names, Bad}
+use Rattle.lexicon.specs.declared.BadDictionary.{BadDictionary}
 
 -- ---- the grammar
 
@@ -73,13 +72,13 @@ abbrev pub dictionary_rows : List ℕ → List Row
 dictionary_rows d = row 19 (not (is_dictionary d)) ∷ []
 
 -- an answer's number in the table, 0 without a refusal
-abbrev pub dictionary_number : Dictionary → ℕ
-dictionary_number (Names count) = 0
-dictionary_number Bad = 19
+abbrev pub dictionary_number : Result ℕ BadDictionary → ℕ
+dictionary_number (Ok count) = 0
+dictionary_number (Err e) = 19
 
 -- how many names a dictionary has, or 19
-unfoldable pub read_dictionary : List ℕ → Dictionary
-read_dictionary d = cond (is_dictionary d) (Names (length (dictionary_names d))) Bad
+unfoldable pub read_dictionary : List ℕ → Result ℕ BadDictionary
+read_dictionary d = cond (is_dictionary d) (Ok (length (dictionary_names d))) (Err (record {}))
 
 -- ---- names by their ids, in any bytes
 

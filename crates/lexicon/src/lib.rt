@@ -4,13 +4,11 @@
 
 mod names;
 mod reading;
+mod stored;
 
 pub use names::{name_at, name_below, name_count, same_name};
 pub use reading::read_dictionary;
 
-// How many names a whole dictionary has; or that the bytes are none.
-#[derive(Clone, Copy)]
-pub enum Dictionary {
-    Names(usize),
-    Bad,
-}
+// The bytes are no dictionary.
+#[derive(Clone, Copy, PartialEq, Eq, Debug)]
+pub struct BadDictionary;

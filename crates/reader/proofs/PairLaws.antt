@@ -9,14 +9,14 @@ use lib.ListN.{length}
 use borrow.Author.Tests.{lt-leb, le-leb}
 use Rattle.encoding.specs.Rows.{first}
 use Rattle.metadata.specs.Bytes.{dictionary_names}
-use Rattle.lexicon.specs.declared.Dictionary.{Dictionary}
-use Rattle.lexicon.specs.declared.Dictionary.TheVariants.{Names, Bad}
+use Rattle.std.specs.Prelude.{Result, Ok, Err}
+use Rattle.lexicon.specs.declared.BadDictionary.{BadDictionary}
 use Rattle.lexicon.specs.Dictionary.{is_dictionary, dictionary_number, read_dictionary, most_bytes}
 use Rattle.lexicon.proofs.DictionaryLaws.{both, number_19}
 use Rattle.grammar.specs.Tests.{is_value, pair_rows}
 
 -- the test of 19, by the answer's number
-refused : (d : List ℕ) (x : Dictionary) → x ≡ read_dictionary d → dictionary_number x ≡ cond (not (is_dictionary d)) 19 0
+refused : (d : List ℕ) (x : Result ℕ BadDictionary) → x ≡ read_dictionary d → dictionary_number x ≡ cond (not (is_dictionary d)) 19 0
 unfolding first
 refused d x e = ap dictionary_number e ∙ number_19 d
 
@@ -28,13 +28,13 @@ is_good : (t : Bool) → ◌≡◌ {A = ℕ} 0 (cond (not t) 19 0) → t ≡ tru
 is_good true e = refl
 is_good false e = absurd (omega arith)
 
-pub pair_bad : (d v : List ℕ) → Bad ≡ read_dictionary d → 19 ≡ first (pair_rows d v)
+pub pair_bad : (d v : List ℕ) {b : BadDictionary} → Err b ≡ read_dictionary d → 19 ≡ first (pair_rows d v)
 unfolding first
-pair_bad d v e = rw (is_bad (is_dictionary d) (refused d Bad e))
+pair_bad d v {b = b} e = rw (is_bad (is_dictionary d) (refused d (Err b) e))
 
-module _ (d v : List ℕ) {n : ℕ} (e : Names n ≡ read_dictionary d) where
+module _ (d v : List ℕ) {n : ℕ} (e : Ok n ≡ read_dictionary d) where
   good : is_dictionary d ≡ true
-  good = is_good (is_dictionary d) (refused d (Names n) e)
+  good = is_good (is_dictionary d) (refused d (Ok n) e)
 
   pub pair_long : most_bytes < length v → 20 ≡ first (pair_rows d v)
   unfolding first

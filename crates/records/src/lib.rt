@@ -8,7 +8,7 @@ ghost use Rattle.semantics.specs.Record.{chained, container_at, elements_at, mar
 ghost use Rattle.semantics.specs.Record.{encloses as encloses_of, under as under_of};
 
 use marks::{NUMBERS, marks_fit};
-use metadata::{metadata_size, num_field_names};
+
 use semantics::{Builder, Container, Counts, Mark, View, no_container};
 
 // A builder's record, read piece by piece.
@@ -149,8 +149,8 @@ fn mark_now(c: Counts, n: usize, unique: bool) -> Mark
 {
     Mark {
         value: c.value,
-        names: num_field_names(c.dictionary),
-        text: metadata_size(c.dictionary),
+        names: c.dictionary.num_field_names(),
+        text: c.dictionary.metadata_size(),
         entries: c.entries,
         undo: c.undo,
         count: n,

@@ -8,7 +8,9 @@ use lib.Dec.{eqb, ltb}
 use lib.ListN.{length}
 use borrow.Author.Tests.{ltb-false, not-true, not-false}
 use Rattle.encoding.specs.Utf8.{utf8}
+use Rattle.std.specs.Prelude.{Result, Ok, Err}
 use Rattle.metadata.specs.declared.FieldName.{FieldName}
+use Rattle.metadata.specs.declared.NameError.{NameError}
 use Rattle.metadata.specs.Names.{Name, intact, field_names}
 use Rattle.metadata.specs.Calls.{Told, lookup, told, has_room}
 use Rattle.metadata.proofs.DictionaryLaws.{place_low}
@@ -26,8 +28,14 @@ use Rattle.refusals.specs.Decide.{name_of, field_of, no_field, broken_of, told_b
 pub use Rattle.refusals.proofs.ViewLaws.{Within, within, entries_within, ends_read, range_within, found_before}
 
 -- an answer's number and values, of the variant that it is
-pub told_by_lem : {f g : FieldName} {k h : Known} {t : Told} → told f ≡ t → f ≡ g → k ≡ h → told_by h ≡ told g → told_by k ≡ t
+pub told_by_lem : {f g : Result FieldName NameError} {k h : Known} {t : Told} → told f ≡ t → f ≡ g → k ≡ h → told_by h ≡ told g → told_by k ≡ t
 told_by_lem p q r e = ap told_by r ∙ (e ∙ (ap told (sym q) ∙ p))
+
+pub told_err : {f : Result FieldName NameError} {a g : NameError} {k h : Known} {t : Told} → told f ≡ t → f ≡ Err a → a ≡ g → k ≡ h → told_by h ≡ told (Err g) → told_by k ≡ t
+told_err p q s r e = told_by_lem p (q ∙ ap Err s) r e
+
+pub told_ok : {f : Result FieldName NameError} {a g : FieldName} {k h : Known} {t : Told} → told f ≡ t → f ≡ Ok a → a ≡ g → k ≡ h → told_by h ≡ told (Ok g) → told_by k ≡ t
+told_ok p q s r e = told_by_lem p (q ∙ ap Ok s) r e
 
 -- ---- a name
 

@@ -7,7 +7,7 @@ ghost use Rattle.refusals.specs.Decide.{Sees, broken_of, name_of, no_field, told
 use crate::Field;
 use crate::view::{in_object, is_open, saturating_sub};
 use container::search_entries;
-use metadata::{FieldName, MetadataBuilder, field_name, num_field_names};
+use metadata::{FieldName, MetadataBuilder, NameError, Names};
 use semantics::View;
 
 // A look-up's number, 0 where the name has an id; the id, and whether it is a new one.
@@ -39,21 +39,26 @@ pub(crate) fn no_field() -> Field
 pub(crate) fn look_up(m: MetadataBuilder, text: &[u8], ends: &[usize], name: &[u8]) -> Known
     ensures { told_by result ≡ lookup m text.now ends.now name.now }
 {
-    let found = field_name(m, text, ends, name);
+    let held = Names {
+        counts: m,
+        text,
+        ends,
+    };
+    let found = held.field_name(name);
     match found {
-        FieldName::Damaged => refused(1),
-        FieldName::NotUtf8 => refused(9),
-        FieldName::Found(id) => Known {
+        Err(NameError::Damaged) => refused(1),
+        Err(NameError::NotUtf8) => refused(9),
+        Ok(FieldName::Found(id)) => Known {
             id: id,
             number: 0,
             new: false,
         },
-        FieldName::New(id) => Known {
+        Ok(FieldName::New(id)) => Known {
             id: id,
             number: 0,
             new: true,
         },
-        FieldName::Full => refused(12),
+        Err(NameError::Full) => refused(12),
     }
 }
 
@@ -94,7 +99,7 @@ pub(crate) fn field_of(
     let k = v.inner;
     let m = c.dictionary;
     let n = look_up(m, text, ends, name);
-    let names = num_field_names(m);
+    let names = m.num_field_names();
     let size = saturating_sub(c.value, k.value);
     let s = search_entries(entries, k.entries, c.entries, true, names, size, n.id);
     let live = (into & is_open(v)) & (((n.number == 0) & !n.new) & (s.place < c.entries));

@@ -15,7 +15,7 @@ use crate::{Closing, Decided, Field, Undone};
 use container::search_entries;
 use encoding::slices::fits;
 use measure::whole_values;
-use metadata::{intact, num_field_names};
+use metadata::Names;
 use semantics::{ParentEntry, View, good_floor};
 
 // A register's, an append's and an open's. `into` is false of a register, which enters nothing into a container, whatever is open;
@@ -145,11 +145,16 @@ pub fn close_number(
     let c = v.counts;
     let k = v.inner;
     let m = c.dictionary;
-    let names = num_field_names(m);
+    let names = m.num_field_names();
     let size = saturating_sub(c.value, k.value);
     let s = search_entries(entries, k.entries, c.entries, true, names, size, 0);
     let unfit = (in_object(v) & s.misplaced) | late_uncounted(v, value);
-    let misread = !intact(m, text, ends) | unfit;
+    let held = Names {
+        counts: m,
+        text,
+        ends,
+    };
+    let misread = !held.intact() | unfit;
     let n = row(misread, 1, row(c.finished, 2, row(!is_open(v), 3, 0)));
     Closing {
         number: n,
@@ -189,7 +194,12 @@ pub fn finish_number(
         return 0;
     }
     let m = c.dictionary;
-    row(!intact(m, text, ends), 1, n)
+    let held = Names {
+        counts: m,
+        text,
+        ends,
+    };
+    row(!held.intact(), 1, n)
 }
 
 pub fn rollback_number(
@@ -280,7 +290,7 @@ pub fn return_number(
     let c = v.counts;
     let k = v.inner;
     let m = c.dictionary;
-    let names = num_field_names(m);
+    let names = m.num_field_names();
     let size = saturating_sub(c.value, k.value);
     let s = search_entries(entries, k.entries, c.entries, true, names, size, 0);
     let misread = in_object(v) & s.misplaced;
@@ -339,7 +349,7 @@ fn parent_entry(v: View, entries: &[usize]) -> Parent
     let k = v.inner;
     let p = v.parent;
     let m = v.counts.dictionary;
-    let names = num_field_names(m);
+    let names = m.num_field_names();
     let entry = k.parent;
     let size = saturating_sub(k.value, p.value);
     match entry {

@@ -6,7 +6,7 @@ ghost use Rattle.semantics.specs.Table.{second_top};
 ghost use Rattle.refusals.specs.Decide.{broken_of, misnamed_by};
 
 use encoding::slices::counted;
-use metadata::{exceeds, metadata_size, num_field_names};
+use metadata::Names;
 use semantics::{View, good_floor};
 
 // a - b, or 0 where b is more.
@@ -44,7 +44,12 @@ pub(crate) fn broken(
     let c = v.counts;
     let m = c.dictionary;
     let over = (entries.len() / 2 < c.entries) | (undo.len() / 2 < c.undo);
-    ((counted(value.len()) < c.value) | (exceeds(m, text, ends) | over))
+    let held = Names {
+        counts: m,
+        text,
+        ends,
+    };
+    ((counted(value.len()) < c.value) | (held.exceeds() | over))
         | (!(v.chain & grown(v)) | !good_floor(c.floor))
 }
 
@@ -55,8 +60,8 @@ fn grown(v: View) -> bool
     let k = v.inner;
     let c = v.counts;
     let m = c.dictionary;
-    let names = num_field_names(m);
-    let text = metadata_size(m);
+    let names = m.num_field_names();
+    let text = m.metadata_size();
     let few = k.object | (v.elements <= saturating_sub(c.value, k.value));
     let late = (k.entries <= c.entries) & ((k.undo <= c.undo) & few);
     (k.value <= c.value) & ((k.names <= names) & ((k.text <= text) & late))

@@ -123,7 +123,7 @@ pub fn good_floor(floor: usize) -> bool
 pub fn fresh_counts(unique: bool, floor: usize) -> Counts
     ensures { result ≡ fresh_counts unique floor }
 {
-    let m = metadata::new();
+    let m = MetadataBuilder::new();
     Counts {
         value: 0,
         entries: 0,

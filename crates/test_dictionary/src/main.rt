@@ -5,7 +5,7 @@
 // parquet-variant 60.1.0 itself, with equal bytes, but for the sorted mark where names were cut: there the model alone has it so.
 #![tactic(auto)]
 
-use metadata::{Finished, MetadataBuilder, add_field_name, finish, from_parts, is_never_used, new};
+use metadata::{FinishError, MetadataBuilder, Names, is_never_used};
 use std::io;
 use std::io::Write;
 
@@ -25,14 +25,14 @@ fn main(rt: HostRuntime) -> io::Result<()> {
 fn few<W: Write>(to: &mut W) -> io::Result<()> {
     let mut text = [0u8; 16];
     let mut ends = [0usize; 4];
-    line(to, b"none", new(), &text, &ends)?;
-    let one = with(new(), &mut text, &mut ends, b"");
+    line(to, b"none", MetadataBuilder::new(), &text, &ends)?;
+    let one = with(MetadataBuilder::new(), &mut text, &mut ends, b"");
     line(to, b"one empty name", one, &text, &ends)?;
-    let b = with(new(), &mut text, &mut ends, b"b");
+    let b = with(MetadataBuilder::new(), &mut text, &mut ends, b"b");
     line(to, b"b", b, &text, &ends)?;
     let two = with(b, &mut text, &mut ends, b"a");
     line(to, b"b, a", two, &text, &ends)?;
-    let a = with(new(), &mut text, &mut ends, b"a");
+    let a = with(MetadataBuilder::new(), &mut text, &mut ends, b"a");
     let ab = with(a, &mut text, &mut ends, b"b");
     let abc = with(ab, &mut text, &mut ends, b"c");
     line(to, b"a, b, c", abc, &text, &ends)?;
@@ -43,11 +43,16 @@ fn few<W: Write>(to: &mut W) -> io::Result<()> {
 fn cut<W: Write>(to: &mut W) -> io::Result<()> {
     let mut text = [0u8; 16];
     let mut ends = [0usize; 4];
-    let b = with(new(), &mut text, &mut ends, b"b");
+    let b = with(MetadataBuilder::new(), &mut text, &mut ends, b"b");
     let two = with(b, &mut text, &mut ends, b"a");
-    let again = with(from_parts(1, 1), &mut text, &mut ends, b"c");
+    let again = with(
+        MetadataBuilder::from_parts(1, 1),
+        &mut text,
+        &mut ends,
+        b"c",
+    );
     line(to, b"b, a, cut to b, c", again, &text, &ends)?;
-    let none = from_parts(0, 0);
+    let none = MetadataBuilder::from_parts(0, 0);
     line(to, b"b, cut to none", none, &text, &ends)?;
     let other = with(none, &mut text, &mut ends, b"a");
     line(to, b"b, cut to none, a", other, &text, &ends)
@@ -62,12 +67,10 @@ fn many<W: Write>(to: &mut W, label: &[u8], n: usize) -> io::Result<()> {
 
 // n names of two bytes, ascending.
 fn filled(text: &mut [u8], ends: &mut [usize], n: usize) -> MetadataBuilder {
-    let mut m = new();
-    let mut i = 0;
-    while i < n {
+    let mut m = MetadataBuilder::new();
+    for i in 0..n {
         let pair = [48 + (i / 64 % 64) as u8, 48 + (i % 64) as u8];
         m = with(m, text, ends, &pair);
-        i += 1;
     }
     m
 }
@@ -77,7 +80,12 @@ fn long<W: Write>(to: &mut W, label: &[u8], n: usize) -> io::Result<()> {
     let name = [0x61u8; 65536];
     let mut text = [0u8; 65536];
     let mut ends = [0usize; 1];
-    let m = with(new(), &mut text, &mut ends, front(&name, n));
+    let m = with(
+        MetadataBuilder::new(),
+        &mut text,
+        &mut ends,
+        front(&name, n),
+    );
     line(to, label, m, &text, &ends)
 }
 
@@ -85,25 +93,30 @@ fn long<W: Write>(to: &mut W, label: &[u8], n: usize) -> io::Result<()> {
 fn unnamed<W: Write>(to: &mut W) -> io::Result<()> {
     let mut text = [0u8; 1];
     let mut ends = [0usize; 1];
-    told(to, new(), &text, &ends)?;
-    with(new(), &mut text, &mut ends, b"b");
-    told(to, from_parts(0, 0), &text, &ends)?;
-    let empty = with(new(), &mut text, &mut ends, b"");
+    told(to, MetadataBuilder::new(), &text, &ends)?;
+    with(MetadataBuilder::new(), &mut text, &mut ends, b"b");
+    told(to, MetadataBuilder::from_parts(0, 0), &text, &ends)?;
+    let empty = with(MetadataBuilder::new(), &mut text, &mut ends, b"");
     told(to, empty, &text, &ends)
 }
 
 // "never used" where the bytes written are those of such a dictionary, else "used".
 fn told<W: Write>(to: &mut W, m: MetadataBuilder, text: &[u8], ends: &[usize]) -> io::Result<()> {
     let mut out = [0u8; 4];
-    match finish(m, 1, text, ends, &mut out) {
-        Finished::Written(n) => {
+    let names = Names {
+        counts: m,
+        text,
+        ends,
+    };
+    match names.finish(1, &mut out) {
+        Ok(n) => {
             if is_never_used(front(&out, n)) {
                 line(to, b"never used", m, text, ends)?;
             } else {
                 line(to, b"used", m, text, ends)?;
             }
         }
-        _ => {
+        Err(_) => {
             print::text(to, b"refused\n")?;
         }
     }
@@ -118,7 +131,9 @@ fn front(s: &[u8], n: usize) -> &[u8] {
 }
 
 fn with(m: MetadataBuilder, text: &mut [u8], ends: &mut [usize], name: &[u8]) -> MetadataBuilder {
-    add_field_name(m, text, ends, name).metadata
+    let mut next = m;
+    let _ = next.add_field_name(text, ends, name);
+    next
 }
 
 fn line<W: Write>(
@@ -130,18 +145,23 @@ fn line<W: Write>(
 ) -> io::Result<()> {
     print::text(to, label)?;
     let mut out = [0u8; 65600];
-    match finish(m, 1, text, ends, &mut out) {
-        Finished::Written(n) => {
+    let names = Names {
+        counts: m,
+        text,
+        ends,
+    };
+    match names.finish(1, &mut out) {
+        Ok(n) => {
             print::text(to, b": ")?;
             print::decimal(to, n as u64)?;
             print::text(to, b" bytes, ")?;
             print::front(to, &out, n)?;
             print::text(to, b"\n")?;
         }
-        Finished::Damaged => {
+        Err(FinishError::Damaged) => {
             print::text(to, b" refused 1\n")?;
         }
-        Finished::NoRoom => {
+        Err(FinishError::NoRoom) => {
             print::text(to, b" refused 16\n")?;
         }
     }

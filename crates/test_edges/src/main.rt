@@ -8,7 +8,6 @@ ghost use Rattle.std.specs.Prelude.{◌≤◌};
 
 use builder::new;
 use builder_mut::{Call, LendCalled, lend};
-use metadata::num_field_names;
 use std::io;
 use std::io::Write;
 use value::variant::{Variant, VariantBytes};
@@ -78,7 +77,7 @@ fn line<W: Write>(
     print::decimal(to, s.number as u64)?;
     print::text(to, b", ")?;
     let m = s.builder.counts.dictionary;
-    print::decimal(to, num_field_names(m) as u64)?;
+    print::decimal(to, m.num_field_names() as u64)?;
     print::text(to, b" names, ")?;
     let used = s.builder.counts.value;
     print::decimal(to, used as u64)?;

@@ -5,7 +5,7 @@
 use container::{CloseError, Entry, Frame, close_object, put_entry, search_entries};
 use encoding::slices::write_slice;
 use list::close_list;
-use metadata::{MetadataBuilder, add_field_name};
+use metadata::{MetadataBuilder, Names};
 use std::io;
 use std::io::Write;
 
@@ -79,6 +79,14 @@ fn values<W: Write>(
     line(to, label, closed, size, &value)
 }
 
+fn no_names() -> Names<'static> {
+    Names {
+        counts: MetadataBuilder::new(),
+        text: b"",
+        ends: &[],
+    }
+}
+
 fn no_fields<W: Write>(to: &mut W, label: &[u8]) -> io::Result<()> {
     let mut value = [0u8; 64];
     let mut entries = [0usize; 4];
@@ -86,9 +94,7 @@ fn no_fields<W: Write>(to: &mut W, label: &[u8]) -> io::Result<()> {
     let closed = close_object(
         frame(0, 0),
         most,
-        metadata::new(),
-        b"",
-        &[],
+        no_names(),
         &mut value,
         &mut entries,
     );
@@ -103,9 +109,7 @@ fn object<W: Write>(to: &mut W, label: &[u8], id: usize) -> io::Result<()> {
     let closed = close_object(
         frame(1, 1),
         most,
-        metadata::new(),
-        b"",
-        &[],
+        no_names(),
         &mut value,
         &mut entries,
     );
@@ -115,19 +119,22 @@ fn object<W: Write>(to: &mut W, label: &[u8], id: usize) -> io::Result<()> {
 fn two_fields<W: Write>(to: &mut W, label: &[u8]) -> io::Result<()> {
     let mut text = [0u8; 2];
     let mut ends = [0usize; 2];
-    let b = with(metadata::new(), &mut text, &mut ends, b"b");
+    let b = with(MetadataBuilder::new(), &mut text, &mut ends, b"b");
     let ba = with(b, &mut text, &mut ends, b"a");
     let mut value = [0u8; 64];
     let mut entries = [0usize; 4];
     let _ = put_entry(&mut entries, 0, Entry { id: 0, offset: 0 });
     let _ = put_entry(&mut entries, 1, Entry { id: 1, offset: 2 });
     let most = largest(&entries, 2);
+    let names = Names {
+        counts: ba,
+        text: &text,
+        ends: &ends,
+    };
     let closed = close_object(
         frame(4, 2),
         most,
-        ba,
-        &text,
-        &ends,
+        names,
         &mut value,
         &mut entries,
     );
@@ -135,7 +142,9 @@ fn two_fields<W: Write>(to: &mut W, label: &[u8]) -> io::Result<()> {
 }
 
 fn with(m: MetadataBuilder, text: &mut [u8], ends: &mut [usize], name: &[u8]) -> MetadataBuilder {
-    add_field_name(m, text, ends, name).metadata
+    let mut next = m;
+    let _ = next.add_field_name(text, ends, name);
+    next
 }
 
 // The largest id of the first n entries.

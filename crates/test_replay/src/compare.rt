@@ -1,6 +1,5 @@
 // What was expected against what came, and the counts.
 use crate::parse::word;
-use metadata::{metadata_size, num_field_names};
 use semantics::Counts;
 use std::io;
 use std::io::Write;
@@ -60,14 +59,14 @@ pub fn used<W: Write>(to: &mut W, t: Tally, c: Counts, expected: &[u8]) -> io::R
         a,
         b"used names",
         expect(expected, 8),
-        num_field_names(m),
+        m.num_field_names(),
     )?;
     let d = number(
         to,
         b,
         b"used name bytes",
         expect(expected, 16),
-        metadata_size(m),
+        m.metadata_size(),
     )?;
     let e = number(to, d, b"used entries", expect(expected, 24), c.entries)?;
     let f = number(to, e, b"open containers", expect(expected, 32), c.depth)?;

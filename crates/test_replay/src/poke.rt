@@ -4,7 +4,7 @@ use crate::parse::word;
 use container::{Entry, put_entry};
 use encoding::slices::write_slice;
 use marks::NUMBERS;
-use metadata::{from_parts, metadata_size, num_field_names};
+use metadata::MetadataBuilder;
 use semantics::{Builder, Container, Counts, ParentEntry};
 
 // A poke's number at `from`.
@@ -35,8 +35,8 @@ fn counts(before: Counts, which: u8, n: usize) -> Counts {
     let m = c.dictionary;
     match which {
         0 => c.value = n,
-        1 => c.dictionary = from_parts(n, metadata_size(m)),
-        2 => c.dictionary = from_parts(num_field_names(m), n),
+        1 => c.dictionary = MetadataBuilder::from_parts(n, m.metadata_size()),
+        2 => c.dictionary = MetadataBuilder::from_parts(m.num_field_names(), n),
         3 => c.entries = n,
         4 => c.depth = n,
         5 => c.unique = n == 1,

@@ -1,4 +1,8 @@
 -- Rows 2, 4 and 15 first, and row 1 with them; else the dictionary's answer.
+use mathlib.Core.Path.{◌∙◌, ap}
+use Prim.Native.Nat.{ℕ}
+use Rattle.std.specs.Prelude.{Result, Err}
+use Rattle.metadata.specs.declared.FinishError.{FinishError}
 use Rattle.actions.proofs.FinishLaws.{Finishable, ends_damaged, ends_full, ends_written, finishable, finishes_early}
 use Rattle.semantics.specs.Record.{storage_of}
 use Rattle.actions.proofs.dictionary.finish_over.Goals as goal
@@ -11,12 +15,12 @@ left c = finishable (c.finish_number-n.ensures c.args.out.now) c.if-n-ne0.false
 pub returns-then-n-ne0 : goal.returns-then-n-ne0
 returns-then-n-ne0 c = finishes_early (c.finish_number-n.ensures c.args.out.now) c.if-n-ne0.true
 
-pub returns-in-Damaged : goal.returns-in-Damaged
-returns-in-Damaged c = ends_damaged (left (goal.at.returns-in-Damaged c).Else-n-ne0) c.finish-r.ensures c.in-Damaged.is
+pub returns-in-Err-Damaged : goal.returns-in-Err-Damaged
+returns-in-Err-Damaged c = ends_damaged (left (goal.at.returns-in-Err-Damaged c).Else-n-ne0) c.finish-r.ensures (c.in-Err-Damaged.is ∙ ap {B = Result ℕ FinishError} Err (rw c.in-Err-Damaged.is at c.in-Err-Damaged.field-0-is))
 
-pub returns-in-NoRoom : goal.returns-in-NoRoom
-returns-in-NoRoom c = ends_full (left (goal.at.returns-in-NoRoom c).Else-n-ne0) c.finish-r.ensures c.in-NoRoom.is
+pub returns-in-Err-NoRoom : goal.returns-in-Err-NoRoom
+returns-in-Err-NoRoom c = ends_full (left (goal.at.returns-in-Err-NoRoom c).Else-n-ne0) c.finish-r.ensures (c.in-Err-NoRoom.is ∙ ap {B = Result ℕ FinishError} Err (rw c.in-Err-NoRoom.is at c.in-Err-NoRoom.field-0-is))
 
-pub returns-in-Written : goal.returns-in-Written
-returns-in-Written c =
-    ends_written (left (goal.at.returns-in-Written c).Else-n-ne0) c.finish-r.ensures c.in-Written.is
+pub returns-in-Ok : goal.returns-in-Ok
+returns-in-Ok c =
+    ends_written (left (goal.at.returns-in-Ok c).Else-n-ne0) c.finish-r.ensures c.in-Ok.is

@@ -18,10 +18,10 @@ tested c = inside _ _ _ c.is_outside.ensures c.if-is_outside.false
 
 size : (c : After-len-header)
     → let a = c.args in
-    c.len-header.result ≡ length (object_front a.f a.most (names_of a.m a.text.now a.ends.now) a.entries.now)
+    c.len-header.result ≡ length (object_front a.f a.most (names_of a.names.counts a.names.text.now a.names.ends.now) a.entries.now)
 size c =
     let a = c.args in
-    object_size a.f.floor (names_of a.m a.text.now a.ends.now) a.f.from a.f.to _ _ _ c.len-header.ensures
+    object_size a.f.floor (names_of a.names.counts a.names.text.now a.names.ends.now) a.f.from a.f.to _ _ _ c.len-header.ensures
 
 room : (c : Then-fits) → let a = c.args in a.f.used + c.len-header.result ≤ counted (length a.value.now)
 room c = fits_counted _ _ _ c.fits.ensures c.if-fits.true
@@ -50,7 +50,7 @@ returns-then-fits c =
     let i = tested (goal.at.returns-then-fits c).Else-is_outside in
     let f = c.fits.ensures in
     let sorted = sorted_part _ a.f.from a.f.to a.entries.now i.range (omega (arith, i.held)) c.sort.ensures in
-    let h = object_front_lem a.f.floor (names_of a.m a.text.now a.ends.now) a.f.from a.f.to _ _ _ _ _ sorted i.range (omega arith) c.write.ensures in
+    let h = object_front_lem a.f.floor (names_of a.names.counts a.names.text.now a.names.ends.now) a.f.from a.f.to _ _ _ _ _ sorted i.range (omega arith) c.write.ensures in
     record {
       header = closes_done _ _ _ _ _ c.is_outside.ensures c.if-is_outside.false (size (goal.at.returns-then-fits c).After-len-header) f c.if-fits.true
           (fronts _ _ _ _ _ i.order (size (goal.at.returns-then-fits c).After-len-header) f c.if-fits.true c.shift_within.ensures h);

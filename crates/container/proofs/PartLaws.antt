@@ -14,7 +14,9 @@ use Rattle.metadata.specs.Names.{Name}
 use Rattle.container.specs.declared.Entry.{Entry}
 use Rattle.container.specs.Entries.{entries_of, entry_at, put_entries, set_entry}
 use Rattle.container.specs.Sort.{insert, sort, moved_up, inserted, sorted_in}
+use Rattle.container.specs.Undo.{replay, undone_from}
 use Rattle.container.proofs.EntryLaws.{length_entries}
+use Rattle.container.proofs.UndoLaws.{length_replay}
 use Rattle.container.proofs.SortLaws.{length_insert, length_sort}
 
 -- ---- entries as numbers
@@ -159,3 +161,22 @@ first_moved l k h =
     let a : 2 * k ≡ 0 + length bs = omega arith in
     let c : set_entry (write 0 bs l) k e ≡ write (0 + length bs) (e.id ∷ e.offset ∷ []) (write 0 bs l) = set_flat (write 0 bs l) k e (omega arith) ∙ ap (λ i. write i (e.id ∷ e.offset ∷ []) (write 0 bs l)) a in
     rw (copied l k h) (c ∙ (write_write l bs (e.id ∷ e.offset ∷ []) 0 (omega arith) ∙ (ap (λ x. write 0 x l) (sym t) ∙ sym (put_flat 0 (es ++ (e ∷ [])) l (omega arith)))))
+
+-- ---- the records undone in a part of the entries are those undone in all
+
+pub undone_part : (l undo : List ℕ) (from to low high : ℕ) {ys : List ℕ} → from ≤ to → 2 * to ≤ length l → low ≤ high → 2 * high ≤ length undo
+    → (let rest = take (2 * to - 2 * from) (drop (2 * from) l) in
+    let us = take (2 * high - 2 * low) (drop (2 * low) undo) in ys ≡ undone_from rest 0 (length rest / 2) us 0 (length us / 2))
+    → put_mid (2 * from) (2 * to - 2 * from) l ys ≡ undone_from l from to undo low high
+undone_part l undo from to low high h r g q y =
+    let s = 2 * to - 2 * from in
+    let v = 2 * high - 2 * low in
+    let es = replay (entries_of undo low (high - low)) (entries_of l from (to - from)) in
+    let k : length es ≡ to - from = length_replay (entries_of undo low (high - low)) (entries_of l from (to - from)) ∙ length_entries l from (to - from) in
+    let t : length (take s (drop (2 * from) l)) ≡ s = length-take s (drop (2 * from) l) ∙ omega (arith, length-drop (2 * from) l) in
+    let w : length (take v (drop (2 * low) undo)) ≡ v = length-take v (drop (2 * low) undo) ∙ omega (arith, length-drop (2 * low) undo) in
+    let z : length (take s (drop (2 * from) l)) / 2 - 0 ≡ to - from = omega arith in
+    let x : length (take v (drop (2 * low) undo)) / 2 - 0 ≡ high - low = omega arith in
+    let f : from + 0 ≡ from = omega arith in
+    let d : low + 0 ≡ low = omega arith in
+    rw (y, z, x, part_entries from s l 0 (to - from) (omega arith), part_entries low v undo 0 (high - low) (omega arith), f, d) (part_put from s l es (omega arith) (omega arith))

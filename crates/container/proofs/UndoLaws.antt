@@ -6,7 +6,7 @@ use mathlib.Core.List.{List, [], ◌∷◌, ◌++◌}
 use Prim.Native.Nat.{ℕ, zero, suc, ◌+◌, ◌-◌, ◌*◌, ◌≤◌, ◌<◌, min}
 use native.Mathlib.Nat.{add-zero}
 use native.Mathlib.Omega.{arith}
-use lib.Dec.{eqb, ltb}
+use lib.Dec.{eqb, leb, ltb}
 use lib.ListN.{get_or, length, length-set, set}
 use lib.Seq.{get_or-set_other, get_or-set_same}
 use borrow.Author.Tests.{ltb-true, ltb-false, le-ltb, lt-ltb, le-leb, lt-leb}
@@ -156,12 +156,9 @@ pub record Undoing (l : List ℕ) (from to : ℕ) (undo : List ℕ) (low h : ℕ
   pub room : 2 * to ≤ size
   pub records : 2 * h ≤ length undo
 
-pub undoing_start : (l : List ℕ) (from to : ℕ) (undo : List ℕ) (low high : ℕ) → (from ≤ to) × (2 * to ≤ length l) × (2 * high ≤ length undo)
+pub undoing_start : (l : List ℕ) (from to : ℕ) (undo : List ℕ) (low high : ℕ) → from ≤ to → 2 * to ≤ length l → 2 * high ≤ length undo
     → Undoing l from to undo low high (undone_from l from to undo low high) (length l)
-undoing_start l from to undo low high p =
-    let a = p.0 in
-    let b = p.1 in
-    record { left = record { left = refl; room = omega arith }; size_is = refl; order = p.0; room = p.1; records = p.2 }
+undoing_start l from to undo low high a b d = record { left = record { left = refl; room = omega arith }; size_is = refl; order = a; room = b; records = d }
 
 pub undoing_again : {l : List ℕ} {from to : ℕ} {undo : List ℕ} {low h : ℕ} {target : List ℕ} {size : ℕ} {m : List ℕ}
     → Undoing l from to undo low h target size → low < h → m ≡ undone_once l from (to - from) (entry_at undo (h - 1))
@@ -225,6 +222,16 @@ module _ (l : List ℕ) (from to : ℕ) (undo : List ℕ) (low high : ℕ) where
   pub undo_over : from ≤ to → room_for (length l) < to → l ≡ undone_in l from to undo low high
   unfolding undone_in
   undo_over h k = rw (le-leb from to h, lt-leb to (room_for (length l)) k)
+
+  pub undo_empty : from ≤ to → to ≤ room_for (length l) → high ≤ low → l ≡ undone_in l from to undo low high
+  unfolding undone_in entries_of replay
+  undo_empty h k r =
+      let z : high - low ≡ 0 = omega arith in
+      rw (le-leb from to h, le-leb to (room_for (length l)) k, z) (empty (leb high (room_for (length undo))))
+    where
+      empty : (t : Bool) → l ≡ cond t (put_entries from (entries_of l from (to - from)) l) l
+      empty true = sym (put_self l from (to - from))
+      empty false = refl
 
   pub undo_unheld : from ≤ to → to ≤ room_for (length l) → room_for (length undo) < high → l ≡ undone_in l from to undo low high
   unfolding undone_in

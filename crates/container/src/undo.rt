@@ -1,5 +1,5 @@
 // Undo records in lent numbers: two numbers each, an id and a former offset, the newest last.
-ghost use Rattle.std.specs.Prelude.{◌≡◌, ◌-◌, ◌*◌, ◌≤◌, length};
+ghost use Rattle.std.specs.Prelude.{◌≡◌, ◌/◌, length};
 ghost use Rattle.container.specs.Undo.{undone_from, undone_in, undone_once};
 
 use crate::Entry;
@@ -17,46 +17,33 @@ pub fn undo_entries(
 )
     ensures { entries.new ≡ undone_in entries.old from to undo.now low high }
 {
-    if to < from {
+    if to < from || entries.len() / 2 < to {
         return;
     }
-    if entries.len() / 2 < to {
+    if high <= low || undo.len() / 2 < high {
         return;
     }
-    if undo.len() / 2 < high {
-        return;
-    }
-    undo_records(entries, from, to, undo, low, high);
+    undo_records(&mut entries[2 * from..2 * to], &undo[2 * low..2 * high]);
 }
 
-fn undo_records(
-    entries: &mut [usize],
-    from: usize,
-    to: usize,
-    undo: &[usize],
-    low: usize,
-    high: usize,
-)
-    requires { (from ≤ to) × (2 * to ≤ length entries.old) × (2 * high ≤ length undo.now) }
-    ensures { entries.new ≡ undone_from entries.old from to undo.now low high }
+fn undo_records(entries: &mut [usize], undo: &[usize])
+    ensures { entries.new ≡ undone_from entries.old 0 (length entries.old / 2) undo.now 0 (length undo.now / 2) }
 {
-    let mut h = high;
-    while low < h {
-        h -= 1;
+    for h in (0..undo.len() / 2).rev() {
         let u = Entry {
             id: undo[2 * h],
             offset: undo[2 * h + 1],
         };
-        undo_one(entries, from, to, u);
+        undo_one(entries, u);
     }
 }
 
-fn undo_one(entries: &mut [usize], from: usize, to: usize, u: Entry)
-    requires { (from ≤ to) × (2 * to ≤ length entries.old) }
-    ensures { entries.new ≡ undone_once entries.old from (to - from) u }
+fn undo_one(entries: &mut [usize], u: Entry)
+    ensures { entries.new ≡ undone_once entries.old 0 (length entries.old / 2) u }
 {
-    let s = search_entries(entries, from, to, false, 0, 0, u.id);
-    if s.place < to {
+    let n = entries.len() / 2;
+    let s = search_entries(entries, 0, n, false, 0, 0, u.id);
+    if s.place < n {
         let _former = replace_offset(entries, s.place, u.offset);
     }
 }

@@ -8,7 +8,6 @@ ghost use Rattle.semantics.specs.Record.{chained, container_at, elements_at, mar
 ghost use Rattle.semantics.specs.Record.{encloses as encloses_of, under as under_of};
 
 use marks::{NUMBERS, marks_fit};
-
 use semantics::{Builder, Container, Counts, Mark, View, no_container};
 
 // A builder's record, read piece by piece.

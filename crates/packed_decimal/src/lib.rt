@@ -1,6 +1,7 @@
 // Packed decimal: bytes read as the scalar that is stored for them, and a number written as bytes.
 // No function demands anything of its caller: what is refused is an answer and changes nothing.
 #![tactic(auto)]
+
 ghost use Rattle.std.specs.Prelude.{◌≡◌, ◌||◌, ◌-◌, ◌^◌, ltb};
 
 pub mod read;

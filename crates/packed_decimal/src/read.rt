@@ -77,7 +77,7 @@ fn has_digit_above_9(bytes: &[u8]) -> bool
 fn pairs_above_9(pairs: &[u8]) -> bool
     ensures { result ≡ list_any (λ b. ltb 9 (b / 16) || ltb 9 (b % 16)) pairs.now }
 {
-    pairs.iter().any(|b| (9 < *b / 16) | (9 < *b % 16))
+    pairs.iter().any(|b| 9 < high_half(*b) || 9 < low_half(*b))
 }
 
 // The number that the digits make, or the limit where they make more.
@@ -92,9 +92,10 @@ fn digits_magnitude(bytes: &[u8]) -> u128
 fn pairs_magnitude(pairs: &[u8]) -> u128
     ensures { result ≡ fold with_pair 0 pairs.now }
 {
-    pairs
-        .iter()
-        .fold(0, |n, b| with_digit(with_digit(n, high_half(*b)), low_half(*b)))
+    pairs.iter().fold(
+        0,
+        |n, b| with_digit(with_digit(n, high_half(*b)), low_half(*b)),
+    )
 }
 
 fn with_digit(n: u128, digit: u8) -> u128
@@ -124,7 +125,7 @@ fn signed(negative: bool, n: u64) -> i64
     requires { n < 2 ^ 63 }
     ensures { result ≡ signed_of negative n }
 {
-    if negative { 0 - (n as i64) } else { n as i64 }
+    if negative { -(n as i64) } else { n as i64 }
 }
 
 // -(high * 2^64 + low) is -(high + 1) * 2^64 + (2^64 - low) where low is not 0.
@@ -134,7 +135,7 @@ fn decimal16(negative: bool, n: u128, scale: u8) -> VariantDecimal16
 {
     let high = (n / 0x1_0000_0000_0000_0000) as u64;
     let low = (n % 0x1_0000_0000_0000_0000) as u64;
-    if negative & (0 < low) {
+    if negative && 0 < low {
         VariantDecimal16 {
             high: signed(true, high + 1),
             low: 0xffff_ffff_ffff_ffff - (low - 1),

@@ -6,7 +6,7 @@ use crate::Entry;
 use crate::entries::{replace_offset, search_entries};
 
 // The records from `low` up to `high` undone, the newest first, among the entries from `from` up to `to`: the first entry of a
-// record's id gets its offset; a record without one is passed over.
+// record's id gets its offset; a record without one is passed over. Counts that exceed what is lent undo nothing: no slices here.
 pub fn undo_entries(
     entries: &mut [usize],
     from: usize,

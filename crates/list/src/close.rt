@@ -50,7 +50,8 @@ fn damaged(start: usize, used: usize, count: usize, value: &[u8]) -> bool
     !(start <= used) || !(used <= counted(value.len())) || !whole_values(value, start, used, count)
 }
 
-// A list's header but for its offsets: how many they are, the bytes of data, and the floor under the width.
+// A list's header but for its offsets: how many they are, the bytes of data, and the floor under the width. An object's has widths, ids and
+// data elsewhere: one struct for both would ask which it is in each method.
 #[derive(Clone, Copy)]
 struct ListHeader {
     count: usize,

@@ -75,7 +75,8 @@ fn count_size(large: bool) -> usize
     if large { 4 } else { 1 }
 }
 
-// The number in `size` bytes at place `at`, lowest first: in four where more are asked for, in fewer where fewer are there.
+// The number in `size` bytes at place `at`, lowest first: in four where more are asked for, in fewer where fewer are there,
+// so that no number is missing and none is an `Option`.
 pub fn read_packed(v: &[u8], at: usize, size: usize) -> usize
     ensures { Numbered v.now at (min size 4) result }
 {

@@ -1,6 +1,7 @@
-use mathlib.Core.Path.{◌∙◌, ap}
+use mathlib.Core.Path.{◌≡◌, ◌∙◌, ap}
 use Rattle.std.specs.Prelude.{Err}
 use native.Mathlib.Omega.{arith}
+use Rattle.container.specs.declared.CloseError.TheVariants.{Damaged, NoRoom}
 use Rattle.container.specs.Close.{closed_number}
 use Rattle.actions.proofs.CloseLaws.{Closable, closable, closes_early, leaves_closed, leaves_refused}
 use Rattle.semantics.specs.Record.{storage_of}
@@ -26,11 +27,13 @@ returns-in-Ok c =
 
 pub returns-in-Err-Damaged : goal.returns-in-Err-Damaged
 returns-in-Err-Damaged c =
-    leaves_refused (left (goal.at.returns-in-Err-Damaged c).Else-n-ne0) (c.put_header-r.ensures _) (ap closed_number (c.in-Err-Damaged.is ∙ ap Err c.in-Err-Damaged.field-0-is)) (λ e. omega arith)
+    let e : c.in-Err-Damaged.field-0 ≡ Damaged = rw c.in-Err-Damaged.is at c.in-Err-Damaged.field-0-is in
+    leaves_refused (left (goal.at.returns-in-Err-Damaged c).Else-n-ne0) (c.put_header-r.ensures _) (ap closed_number (c.in-Err-Damaged.is ∙ ap Err e)) (λ e. omega arith)
 
 pub returns-in-Err-NoRoom : goal.returns-in-Err-NoRoom
 returns-in-Err-NoRoom c =
-    leaves_refused (left (goal.at.returns-in-Err-NoRoom c).Else-n-ne0) (c.put_header-r.ensures _) (ap closed_number (c.in-Err-NoRoom.is ∙ ap Err c.in-Err-NoRoom.field-0-is)) (λ e. omega arith)
+    let e : c.in-Err-NoRoom.field-0 ≡ NoRoom = rw c.in-Err-NoRoom.is at c.in-Err-NoRoom.field-0-is in
+    leaves_refused (left (goal.at.returns-in-Err-NoRoom c).Else-n-ne0) (c.put_header-r.ensures _) (ap closed_number (c.in-Err-NoRoom.is ∙ ap Err e)) (λ e. omega arith)
 
 pub overflow_sub-result : goal.overflow_sub-result
 overflow_sub-result c = (left (goal.at.overflow_sub-result c).Else-n-ne0).depth

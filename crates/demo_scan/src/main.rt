@@ -15,399 +15,187 @@ use std::io::Write;
 use value::decimal::VariantDecimal4;
 use value::variant::{Variant, VariantBytes};
 
+// The builder, and the storage that it is lent.
+#[derive(Drop)]
+struct Scan {
+    builder: Builder,
+    marks: [usize; 7168],
+    value: [u8; 78],
+    text: [u8; 52],
+    ends: [usize; 8],
+    entries: [usize; 16],
+}
+
 fn main(rt: HostRuntime) -> io::Result<()> {
     let to = &mut io::writer(&rt);
-    let mut value = [0u8; 78];
-    let mut text = [0u8; 52];
-    let mut ends = [0usize; 8];
-    let mut entries = [0usize; 16];
-    let marks = [0usize; 7168];
-    let mut b = object(
-        to,
-        new(true),
-        &marks,
-        &value,
-        &mut text,
-        &mut ends,
-        &mut entries,
-    )?;
-    b = tag(
-        to,
-        b,
-        &marks,
-        &mut value,
-        &mut text,
-        &mut ends,
-        &mut entries,
-    )?;
-    b = weight(
-        to,
-        b,
-        &marks,
-        &mut value,
-        &mut text,
-        &mut ends,
-        &mut entries,
-    )?;
-    b = sex(
-        to,
-        b,
-        &marks,
-        &mut value,
-        &mut text,
-        &mut ends,
-        &mut entries,
-    )?;
-    b = born(
-        to,
-        b,
-        &marks,
-        &mut value,
-        &mut text,
-        &mut ends,
-        &mut entries,
-    )?;
-    b = scanned(
-        to,
-        b,
-        &marks,
-        &mut value,
-        &mut text,
-        &mut ends,
-        &mut entries,
-    )?;
-    b = temperature(
-        to,
-        b,
-        &marks,
-        &mut value,
-        &mut text,
-        &mut ends,
-        &mut entries,
-    )?;
-    b = vaccinated(
-        to,
-        b,
-        &marks,
-        &mut value,
-        &mut text,
-        &mut ends,
-        &mut entries,
-    )?;
-    b = readings(to, b, &marks, &value, &mut text, &mut ends, &mut entries)?;
-    b = reading(
-        to,
-        b,
-        &marks,
-        &mut value,
-        &mut text,
-        &mut ends,
-        &mut entries,
-        4131,
-    )?;
-    b = reading(
-        to,
-        b,
-        &marks,
-        &mut value,
-        &mut text,
-        &mut ends,
-        &mut entries,
-        4128,
-    )?;
-    b = reading(
-        to,
-        b,
-        &marks,
-        &mut value,
-        &mut text,
-        &mut ends,
-        &mut entries,
-        4125,
-    )?;
-    ended(to, b, &marks, &mut value, &text, &ends, &mut entries)
-}
-
-fn object<W: Write>(
-    to: &mut W,
-    b: Builder,
-    marks: &[usize; 7168],
-    value: &[u8],
-    text: &mut [u8],
-    ends: &mut [usize],
-    entries: &mut [usize],
-) -> io::Result<Builder> {
-    let opened = new_object(b, marks, value, text, ends, entries, &mut [], false, b"");
-    after(to, b"object", opened)
-}
-
-// Plain text, stored as short text up to 63 bytes.
-fn tag<W: Write>(
-    to: &mut W,
-    b: Builder,
-    marks: &[usize; 7168],
-    value: &mut [u8],
-    text: &mut [u8],
-    ends: &mut [usize],
-    entries: &mut [usize],
-) -> io::Result<Builder> {
-    let kind = VariantBytes::Text;
-    text_field(
-        to,
-        b,
-        marks,
-        value,
-        text,
-        ends,
-        entries,
-        b"tag",
-        kind,
-        b"999000000012345",
-    )
-}
-
-// 412.5 kg.
-fn weight<W: Write>(
-    to: &mut W,
-    b: Builder,
-    marks: &[usize; 7168],
-    value: &mut [u8],
-    text: &mut [u8],
-    ends: &mut [usize],
-    entries: &mut [usize],
-) -> io::Result<Builder> {
-    let kilograms = VariantDecimal4 {
-        integer: 4125,
-        scale: 1,
+    let mut scan = Scan {
+        builder: new(true),
+        marks: [0; 7168],
+        value: [0; 78],
+        text: [0; 52],
+        ends: [0; 8],
+        entries: [0; 16],
     };
-    let x = Variant::Decimal4(kilograms);
-    field(to, b, marks, value, text, ends, entries, b"weight", x)
-}
-
-fn sex<W: Write>(
-    to: &mut W,
-    b: Builder,
-    marks: &[usize; 7168],
-    value: &mut [u8],
-    text: &mut [u8],
-    ends: &mut [usize],
-    entries: &mut [usize],
-) -> io::Result<Builder> {
-    let kind = VariantBytes::ShortString;
-    text_field(to, b, marks, value, text, ends, entries, b"sex", kind, b"F")
-}
-
-// On 14 August 2024, in days since 1970.
-fn born<W: Write>(
-    to: &mut W,
-    b: Builder,
-    marks: &[usize; 7168],
-    value: &mut [u8],
-    text: &mut [u8],
-    ends: &mut [usize],
-    entries: &mut [usize],
-) -> io::Result<Builder> {
-    let x = Variant::Date(19_949);
-    field(to, b, marks, value, text, ends, entries, b"born", x)
-}
-
-// On 5 March 2026 at 07:42:18.25 UTC, in microseconds since 1970.
-fn scanned<W: Write>(
-    to: &mut W,
-    b: Builder,
-    marks: &[usize; 7168],
-    value: &mut [u8],
-    text: &mut [u8],
-    ends: &mut [usize],
-    entries: &mut [usize],
-) -> io::Result<Builder> {
-    let x = Variant::TimestampMicros(1_772_696_538_250_000);
-    field(to, b, marks, value, text, ends, entries, b"scanned", x)
-}
-
-// 38.6 degrees Celsius, as the bits of a float.
-fn temperature<W: Write>(
-    to: &mut W,
-    b: Builder,
-    marks: &[usize; 7168],
-    value: &mut [u8],
-    text: &mut [u8],
-    ends: &mut [usize],
-    entries: &mut [usize],
-) -> io::Result<Builder> {
-    let x = Variant::Float(0x421A_6666);
-    field(to, b, marks, value, text, ends, entries, b"temperature", x)
-}
-
-fn vaccinated<W: Write>(
-    to: &mut W,
-    b: Builder,
-    marks: &[usize; 7168],
-    value: &mut [u8],
-    text: &mut [u8],
-    ends: &mut [usize],
-    entries: &mut [usize],
-) -> io::Result<Builder> {
-    let x = Variant::BooleanTrue;
-    field(to, b, marks, value, text, ends, entries, b"vaccinated", x)
-}
-
-// A list, open until it is closed.
-fn readings<W: Write>(
-    to: &mut W,
-    b: Builder,
-    marks: &[usize; 7168],
-    value: &[u8],
-    text: &mut [u8],
-    ends: &mut [usize],
-    entries: &mut [usize],
-) -> io::Result<Builder> {
-    let opened = new_list(
-        b,
-        marks,
-        value,
-        text,
-        ends,
-        entries,
-        &mut [],
-        true,
-        b"readings",
-    );
-    after(to, b"readings", opened)
-}
-
-// A weight of the last three, in tenths of a kilogram.
-fn reading<W: Write>(
-    to: &mut W,
-    b: Builder,
-    marks: &[usize; 7168],
-    value: &mut [u8],
-    text: &mut [u8],
-    ends: &mut [usize],
-    entries: &mut [usize],
-    n: i16,
-) -> io::Result<Builder> {
-    let x = Variant::Int16(n);
-    let called = append_value(b, marks, value, text, ends, entries, &mut [], false, b"", x);
-    after(to, b"reading", called)
-}
-
-// The list closed, then the object, whose fields are counted before.
-fn ended<W: Write>(
-    to: &mut W,
-    b: Builder,
-    marks: &[usize; 7168],
-    value: &mut [u8],
-    text: &[u8],
-    ends: &[usize],
-    entries: &mut [usize],
-) -> io::Result<()> {
-    let outer = closed(to, b, marks, value, text, ends, entries)?;
-    let fields = outer.counts.entries;
-    let whole = closed(to, outer, marks, value, text, ends, entries)?;
-    finished(to, fields, whole, marks, value, text, ends, entries)
-}
-
-fn closed<W: Write>(
-    to: &mut W,
-    b: Builder,
-    marks: &[usize; 7168],
-    value: &mut [u8],
-    text: &[u8],
-    ends: &[usize],
-    entries: &mut [usize],
-) -> io::Result<Builder> {
-    after(
-        to,
-        b"close",
-        close(b, marks, value, text, ends, entries, &[]),
-    )
-}
-
-fn field<W: Write>(
-    to: &mut W,
-    b: Builder,
-    marks: &[usize; 7168],
-    value: &mut [u8],
-    text: &mut [u8],
-    ends: &mut [usize],
-    entries: &mut [usize],
-    name: &[u8],
-    x: Variant,
-) -> io::Result<Builder> {
-    let called = append_value(b, marks, value, text, ends, entries, &mut [], true, name, x);
-    after(to, name, called)
-}
-
-fn text_field<W: Write>(
-    to: &mut W,
-    b: Builder,
-    marks: &[usize; 7168],
-    value: &mut [u8],
-    text: &mut [u8],
-    ends: &mut [usize],
-    entries: &mut [usize],
-    name: &[u8],
-    kind: VariantBytes,
-    bytes: &[u8],
-) -> io::Result<Builder> {
-    let called = append_bytes(
-        b,
-        marks,
-        value,
-        text,
-        ends,
-        entries,
-        &mut [],
-        true,
-        name,
-        kind,
-        bytes,
-    );
-    after(to, name, called)
-}
-
-// The call's line, and the builder after it.
-fn after<W: Write>(to: &mut W, what: &[u8], called: Called) -> io::Result<Builder> {
-    let answer = called.answer;
-    match answer {
-        Answer::Done => line(to, what, 0)?,
-        Answer::Refused(number) => line(to, what, number as usize)?,
+    scan.object(to)?;
+    scan.fields(to)?;
+    // The weights of the last three readings, in tenths of a kilogram.
+    scan.list(to, "readings")?;
+    for n in [4131, 4128, 4125] {
+        scan.reading(to, n)?;
     }
-    Ok(called.builder)
+    scan.closed(to)?;
+    let fields = scan.builder.counts.entries;
+    scan.closed(to)?;
+    scan.finished(to, fields)
 }
 
-fn line<W: Write>(to: &mut W, what: &[u8], number: usize) -> io::Result<()> {
-    print::text(to, what)?;
-    print::text(to, b" ")?;
-    print::decimal(to, number as u64)?;
-    print::text(to, b"\n")
-}
+impl Scan {
+    fn fields<W: Write>(&mut self, to: &mut W) -> io::Result<()> {
+        // 412.5 kg.
+        let weight = VariantDecimal4 {
+            integer: 4125,
+            scale: 1,
+        };
+        // On 14 August 2024, in days since 1970.
+        let born = 19_949;
+        // On 5 March 2026 at 07:42:18.25 UTC, in microseconds since 1970.
+        let scanned = 1_772_696_538_250_000;
+        // 38.6 degrees Celsius, as the bits of a float.
+        let temperature = 0x421A_6666;
+        // Plain text, stored as short text up to 63 bytes.
+        self.text(to, "tag", VariantBytes::Text, b"999000000012345")?;
+        self.field(to, "weight", Variant::Decimal4(weight))?;
+        self.text(to, "sex", VariantBytes::ShortString, b"F")?;
+        self.field(to, "born", Variant::Date(born))?;
+        self.field(to, "scanned", Variant::TimestampMicros(scanned))?;
+        self.field(to, "temperature", Variant::Float(temperature))?;
+        self.field(to, "vaccinated", Variant::BooleanTrue)
+    }
 
-fn finished<W: Write>(
-    to: &mut W,
-    fields: usize,
-    b: Builder,
-    marks: &[usize; 7168],
-    value: &[u8],
-    text: &[u8],
-    ends: &[usize],
-    entries: &[usize],
-) -> io::Result<()> {
-    let mut out = [0u8; 63];
-    let done = finish(b, marks, value, text, ends, entries, &[], &mut out);
-    let answer = done.answer;
-    match answer {
-        FinishAnswer::Written(n) => {
-            line(to, b"finish", 0)?;
-            line(to, b"fields", fields)?;
-            print::text(to, b"value ")?;
-            print::hex(to, value, done.builder.counts.value)?;
-            print::text(to, b"\ndictionary ")?;
-            print::hex(to, &out, n)?;
-            print::text(to, b"\n")?;
+    fn object<W: Write>(&mut self, to: &mut W) -> io::Result<()> {
+        let called = new_object(
+            self.builder,
+            &self.marks,
+            &self.value,
+            &mut self.text,
+            &mut self.ends,
+            &mut self.entries,
+            &mut [],
+            false,
+            b"",
+        );
+        self.after(to, "object", called)
+    }
+
+    // A list, open until it is closed.
+    fn list<W: Write>(&mut self, to: &mut W, name: &str) -> io::Result<()> {
+        let called = new_list(
+            self.builder,
+            &self.marks,
+            &self.value,
+            &mut self.text,
+            &mut self.ends,
+            &mut self.entries,
+            &mut [],
+            true,
+            name.as_bytes(),
+        );
+        self.after(to, name, called)
+    }
+
+    fn field<W: Write>(&mut self, to: &mut W, name: &str, x: Variant) -> io::Result<()> {
+        let called = self.appended(true, name, x);
+        self.after(to, name, called)
+    }
+
+    fn reading<W: Write>(&mut self, to: &mut W, n: i16) -> io::Result<()> {
+        let called = self.appended(false, "", Variant::Int16(n));
+        self.after(to, "reading", called)
+    }
+
+    fn appended(&mut self, named: bool, name: &str, x: Variant) -> Called {
+        append_value(
+            self.builder,
+            &self.marks,
+            &mut self.value,
+            &mut self.text,
+            &mut self.ends,
+            &mut self.entries,
+            &mut [],
+            named,
+            name.as_bytes(),
+            x,
+        )
+    }
+
+    fn text<W: Write>(
+        &mut self,
+        to: &mut W,
+        name: &str,
+        kind: VariantBytes,
+        bytes: &[u8],
+    ) -> io::Result<()> {
+        let called = append_bytes(
+            self.builder,
+            &self.marks,
+            &mut self.value,
+            &mut self.text,
+            &mut self.ends,
+            &mut self.entries,
+            &mut [],
+            true,
+            name.as_bytes(),
+            kind,
+            bytes,
+        );
+        self.after(to, name, called)
+    }
+
+    fn closed<W: Write>(&mut self, to: &mut W) -> io::Result<()> {
+        let called = close(
+            self.builder,
+            &self.marks,
+            &mut self.value,
+            &self.text,
+            &self.ends,
+            &mut self.entries,
+            &[],
+        );
+        self.after(to, "close", called)
+    }
+
+    // The call's line, and the builder after it.
+    fn after<W: Write>(&mut self, to: &mut W, what: &str, called: Called) -> io::Result<()> {
+        self.builder = called.builder;
+        let answer = called.answer;
+        match answer {
+            Answer::Done => writeln!(to, "{what} 0"),
+            Answer::Refused(number) => writeln!(to, "{what} {number}"),
         }
-        FinishAnswer::Refused(number) => line(to, b"finish", number as usize)?,
     }
-    Ok(())
+
+    fn finished<W: Write>(&mut self, to: &mut W, fields: usize) -> io::Result<()> {
+        let mut out = [0u8; 63];
+        let done = finish(
+            self.builder,
+            &self.marks,
+            &self.value,
+            &self.text,
+            &self.ends,
+            &self.entries,
+            &[],
+            &mut out,
+        );
+        let answer = done.answer;
+        match answer {
+            FinishAnswer::Written(n) => {
+                write!(to, "finish 0\nfields {fields}\nvalue ")?;
+                print::hex(to, &self.value, done.builder.counts.value)?;
+                write!(to, "\ndictionary ")?;
+                print::hex(to, &out, n)?;
+                writeln!(to)
+            }
+            FinishAnswer::Refused(number) => writeln!(to, "finish {number}"),
+        }
+    }
 }

@@ -13,484 +13,263 @@ use std::io;
 use std::io::Write;
 use value::variant::{Variant, VariantBytes};
 
+// The builder, and the storage that it is lent: value bytes, name bytes, name ends, numbers of entries.
+#[derive(Drop)]
+struct Case<const VALUE: usize, const TEXT: usize, const ENDS: usize, const ENTRIES: usize> {
+    builder: Builder,
+    marks: [usize; 7168],
+    value: [u8; VALUE],
+    text: [u8; TEXT],
+    ends: [usize; ENDS],
+    entries: [usize; ENTRIES],
+}
+
 fn main(rt: HostRuntime) -> io::Result<()> {
     let to = &mut io::writer(&rt);
-    let marks = [99usize; 7168];
-    scalar(to, &marks, 1, Variant::Null)?;
-    scalar(to, &marks, 2, Variant::Int8(5))?;
-    scalar(to, &marks, 3, Variant::Int16(-2))?;
-    plain_text(to, &marks)?;
-    empty_list(to, &marks)?;
-    empty_object(to, &marks)?;
-    list_in_list(to, &marks)?;
-    two_fields(to, &marks)?;
-    replaced_field(to, &marks)?;
-    replaced_rolled_back(to, &marks)?;
-    all_rolled_back(to, &marks)?;
-    new_rolled_back(to, &marks)
+    scalar(to, 1, Variant::Null)?;
+    scalar(to, 2, Variant::Int8(5))?;
+    scalar(to, 3, Variant::Int16(-2))?;
+    plain_text(to)?;
+    empty_list(to)?;
+    empty_object(to)?;
+    list_in_list(to)?;
+    two_fields(to)?;
+    replaced_field(to)?;
+    replaced_rolled_back(to)?;
+    all_rolled_back(to)?;
+    new_rolled_back(to)
 }
 
-fn scalar<W: Write>(to: &mut W, marks: &[usize; 7168], case: usize, x: Variant) -> io::Result<()> {
-    let mut value = [0xEEu8; 3];
-    let mut text = [0xEEu8; 1];
-    let mut ends = [99usize; 1];
-    let mut entries = [99usize; 2];
-    let b = top(
-        to,
-        new(true),
-        marks,
-        &mut value,
-        &mut text,
-        &mut ends,
-        &mut entries,
-        x,
-    )?;
-    line(to, case, b, marks, &value, &text, &ends, &entries)
+fn scalar<W: Write>(to: &mut W, number: usize, x: Variant) -> io::Result<()> {
+    let mut case = Case::<3, 1, 1, 2>::new(true);
+    case.top(to, x)?;
+    case.line(to, number)
 }
 
-fn plain_text<W: Write>(to: &mut W, marks: &[usize; 7168]) -> io::Result<()> {
-    let mut value = [0xEEu8; 3];
-    let mut text = [0xEEu8; 1];
-    let mut ends = [99usize; 1];
-    let mut entries = [99usize; 2];
-    let called = append_bytes(
-        new(true),
-        marks,
-        &mut value,
-        &mut text,
-        &mut ends,
-        &mut entries,
-        &mut [],
-        false,
-        b"",
-        VariantBytes::Text,
-        b"hi",
-    );
-    let b = after(to, called)?;
-    line(to, 4, b, marks, &value, &text, &ends, &entries)
+fn plain_text<W: Write>(to: &mut W) -> io::Result<()> {
+    let mut case = Case::<3, 1, 1, 2>::new(true);
+    case.text(to, b"hi")?;
+    case.line(to, 4)
 }
 
-fn empty_list<W: Write>(to: &mut W, marks: &[usize; 7168]) -> io::Result<()> {
-    let mut value = [0xEEu8; 3];
-    let mut text = [0xEEu8; 1];
-    let mut ends = [99usize; 1];
-    let mut entries = [99usize; 1];
-    let b = list_closed(
-        to,
-        new(true),
-        marks,
-        &mut value,
-        &mut text,
-        &mut ends,
-        &mut entries,
-    )?;
-    line(to, 5, b, marks, &value, &text, &ends, &entries)
+fn empty_list<W: Write>(to: &mut W) -> io::Result<()> {
+    let mut case = Case::<3, 1, 1, 1>::new(true);
+    case.list(to, None)?;
+    case.closed(to)?;
+    case.line(to, 5)
 }
 
-fn empty_object<W: Write>(to: &mut W, marks: &[usize; 7168]) -> io::Result<()> {
-    let mut value = [0xEEu8; 3];
-    let mut text = [0xEEu8; 1];
-    let mut ends = [99usize; 1];
-    let mut entries = [99usize; 1];
-    let mut b = object(
-        to,
-        new(true),
-        marks,
-        &value,
-        &mut text,
-        &mut ends,
-        &mut entries,
-    )?;
-    b = closed(to, b, marks, &mut value, &text, &ends, &mut entries)?;
-    line(to, 6, b, marks, &value, &text, &ends, &entries)
+fn empty_object<W: Write>(to: &mut W) -> io::Result<()> {
+    let mut case = Case::<3, 1, 1, 1>::new(true);
+    case.object(to)?;
+    case.closed(to)?;
+    case.line(to, 6)
 }
 
-fn list_in_list<W: Write>(to: &mut W, marks: &[usize; 7168]) -> io::Result<()> {
-    let mut value = [0xEEu8; 7];
-    let mut text = [0xEEu8; 1];
-    let mut ends = [99usize; 1];
-    let mut entries = [99usize; 2];
-    let mut b = list(
-        to,
-        new(true),
-        marks,
-        &value,
-        &mut text,
-        &mut ends,
-        &mut entries,
-    )?;
-    b = list_closed(to, b, marks, &mut value, &mut text, &mut ends, &mut entries)?;
-    b = closed(to, b, marks, &mut value, &text, &ends, &mut entries)?;
-    line(to, 7, b, marks, &value, &text, &ends, &entries)
+fn list_in_list<W: Write>(to: &mut W) -> io::Result<()> {
+    let mut case = Case::<7, 1, 1, 2>::new(true);
+    case.list(to, None)?;
+    case.list(to, None)?;
+    case.closed(to)?;
+    case.closed(to)?;
+    case.line(to, 7)
 }
 
-fn two_fields<W: Write>(to: &mut W, marks: &[usize; 7168]) -> io::Result<()> {
-    let mut value = [0xEEu8; 11];
-    let mut text = [0xEEu8; 2];
-    let mut ends = [99usize; 2];
-    let mut entries = [99usize; 4];
-    let mut b = object(
-        to,
-        new(true),
-        marks,
-        &value,
-        &mut text,
-        &mut ends,
-        &mut entries,
-    )?;
-    b = field(
-        to,
-        b,
-        marks,
-        &mut value,
-        &mut text,
-        &mut ends,
-        &mut entries,
-        b"b",
-        1,
-    )?;
-    b = field(
-        to,
-        b,
-        marks,
-        &mut value,
-        &mut text,
-        &mut ends,
-        &mut entries,
-        b"a",
-        2,
-    )?;
-    b = closed(to, b, marks, &mut value, &text, &ends, &mut entries)?;
-    line(to, 8, b, marks, &value, &text, &ends, &entries)
+fn two_fields<W: Write>(to: &mut W) -> io::Result<()> {
+    let mut case = Case::<11, 2, 2, 4>::new(true);
+    case.object(to)?;
+    case.field(to, b"b", 1)?;
+    case.field(to, b"a", 2)?;
+    case.closed(to)?;
+    case.line(to, 8)
 }
 
-fn replaced_field<W: Write>(to: &mut W, marks: &[usize; 7168]) -> io::Result<()> {
-    let mut value = [0xEEu8; 9];
-    let mut text = [0xEEu8; 1];
-    let mut ends = [99usize; 1];
-    let mut entries = [99usize; 2];
-    let mut b = object(
-        to,
-        new(false),
-        marks,
-        &value,
-        &mut text,
-        &mut ends,
-        &mut entries,
-    )?;
-    b = field(
-        to,
-        b,
-        marks,
-        &mut value,
-        &mut text,
-        &mut ends,
-        &mut entries,
-        b"a",
-        1,
-    )?;
-    b = field(
-        to,
-        b,
-        marks,
-        &mut value,
-        &mut text,
-        &mut ends,
-        &mut entries,
-        b"a",
-        2,
-    )?;
-    b = closed(to, b, marks, &mut value, &text, &ends, &mut entries)?;
-    line(to, 9, b, marks, &value, &text, &ends, &entries)
+fn replaced_field<W: Write>(to: &mut W) -> io::Result<()> {
+    let mut case = Case::<9, 1, 1, 2>::new(false);
+    case.object(to)?;
+    case.field(to, b"a", 1)?;
+    case.field(to, b"a", 2)?;
+    case.closed(to)?;
+    case.line(to, 9)
 }
 
-fn replaced_rolled_back<W: Write>(to: &mut W, marks: &[usize; 7168]) -> io::Result<()> {
-    let mut value = [0xEEu8; 7];
-    let mut text = [0xEEu8; 1];
-    let mut ends = [99usize; 1];
-    let mut entries = [99usize; 2];
-    let mut b = object(
-        to,
-        new(false),
-        marks,
-        &value,
-        &mut text,
-        &mut ends,
-        &mut entries,
-    )?;
-    b = field(
-        to,
-        b,
-        marks,
-        &mut value,
-        &mut text,
-        &mut ends,
-        &mut entries,
-        b"a",
-        1,
-    )?;
-    b = list_rolled_back(
-        to,
-        b,
-        marks,
-        &value,
-        &mut text,
-        &mut ends,
-        &mut entries,
-        b"a",
-    )?;
-    b = closed(to, b, marks, &mut value, &text, &ends, &mut entries)?;
-    line(to, 10, b, marks, &value, &text, &ends, &entries)
+fn replaced_rolled_back<W: Write>(to: &mut W) -> io::Result<()> {
+    let mut case = Case::<7, 1, 1, 2>::new(false);
+    case.object(to)?;
+    case.field(to, b"a", 1)?;
+    case.list(to, Some(b"a"))?;
+    case.rolled_back(to)?;
+    case.closed(to)?;
+    case.line(to, 10)
 }
 
-fn all_rolled_back<W: Write>(to: &mut W, marks: &[usize; 7168]) -> io::Result<()> {
-    let mut value = [0xEEu8; 2];
-    let mut text = [0xEEu8; 1];
-    let mut ends = [99usize; 1];
-    let mut entries = [99usize; 2];
-    let mut b = object(
-        to,
-        new(true),
-        marks,
-        &value,
-        &mut text,
-        &mut ends,
-        &mut entries,
-    )?;
-    b = field(
-        to,
-        b,
-        marks,
-        &mut value,
-        &mut text,
-        &mut ends,
-        &mut entries,
-        b"b",
-        1,
-    )?;
-    b = rolled_back(to, b, marks, &value, &text, &ends, &mut entries)?;
-    b = top(
-        to,
-        b,
-        marks,
-        &mut value,
-        &mut text,
-        &mut ends,
-        &mut entries,
-        Variant::Null,
-    )?;
-    line(to, 11, b, marks, &value, &text, &ends, &entries)
+fn all_rolled_back<W: Write>(to: &mut W) -> io::Result<()> {
+    let mut case = Case::<2, 1, 1, 2>::new(true);
+    case.object(to)?;
+    case.field(to, b"b", 1)?;
+    case.rolled_back(to)?;
+    case.top(to, Variant::Null)?;
+    case.line(to, 11)
 }
 
-fn new_rolled_back<W: Write>(to: &mut W, marks: &[usize; 7168]) -> io::Result<()> {
-    let mut value = [0xEEu8; 11];
-    let mut text = [0xEEu8; 2];
-    let mut ends = [99usize; 2];
-    let mut entries = [99usize; 4];
-    let mut b = object(
-        to,
-        new(true),
-        marks,
-        &value,
-        &mut text,
-        &mut ends,
-        &mut entries,
-    )?;
-    b = field(
-        to,
-        b,
-        marks,
-        &mut value,
-        &mut text,
-        &mut ends,
-        &mut entries,
-        b"b",
-        1,
-    )?;
-    b = list_rolled_back(
-        to,
-        b,
-        marks,
-        &value,
-        &mut text,
-        &mut ends,
-        &mut entries,
-        b"a",
-    )?;
-    b = field(
-        to,
-        b,
-        marks,
-        &mut value,
-        &mut text,
-        &mut ends,
-        &mut entries,
-        b"c",
-        2,
-    )?;
-    b = closed(to, b, marks, &mut value, &text, &ends, &mut entries)?;
-    line(to, 12, b, marks, &value, &text, &ends, &entries)
+fn new_rolled_back<W: Write>(to: &mut W) -> io::Result<()> {
+    let mut case = Case::<11, 2, 2, 4>::new(true);
+    case.object(to)?;
+    case.field(to, b"b", 1)?;
+    case.list(to, Some(b"a"))?;
+    case.rolled_back(to)?;
+    case.field(to, b"c", 2)?;
+    case.closed(to)?;
+    case.line(to, 12)
 }
 
-fn top<W: Write>(
-    to: &mut W,
-    b: Builder,
-    marks: &[usize; 7168],
-    value: &mut [u8],
-    text: &mut [u8],
-    ends: &mut [usize],
-    entries: &mut [usize],
-    x: Variant,
-) -> io::Result<Builder> {
-    after(
-        to,
-        append_value(b, marks, value, text, ends, entries, &mut [], false, b"", x),
-    )
-}
-
-// An int8 field.
-fn field<W: Write>(
-    to: &mut W,
-    b: Builder,
-    marks: &[usize; 7168],
-    value: &mut [u8],
-    text: &mut [u8],
-    ends: &mut [usize],
-    entries: &mut [usize],
-    name: &[u8],
-    n: i8,
-) -> io::Result<Builder> {
-    let x = Variant::Int8(n);
-    after(
-        to,
-        append_value(b, marks, value, text, ends, entries, &mut [], true, name, x),
-    )
-}
-
-fn list<W: Write>(
-    to: &mut W,
-    b: Builder,
-    marks: &[usize; 7168],
-    value: &[u8],
-    text: &mut [u8],
-    ends: &mut [usize],
-    entries: &mut [usize],
-) -> io::Result<Builder> {
-    after(
-        to,
-        new_list(b, marks, value, text, ends, entries, &mut [], false, b""),
-    )
-}
-
-fn list_closed<W: Write>(
-    to: &mut W,
-    b: Builder,
-    marks: &[usize; 7168],
-    value: &mut [u8],
-    text: &mut [u8],
-    ends: &mut [usize],
-    entries: &mut [usize],
-) -> io::Result<Builder> {
-    let opened = list(to, b, marks, value, text, ends, entries)?;
-    closed(to, opened, marks, value, text, ends, entries)
-}
-
-fn object<W: Write>(
-    to: &mut W,
-    b: Builder,
-    marks: &[usize; 7168],
-    value: &[u8],
-    text: &mut [u8],
-    ends: &mut [usize],
-    entries: &mut [usize],
-) -> io::Result<Builder> {
-    after(
-        to,
-        new_object(b, marks, value, text, ends, entries, &mut [], false, b""),
-    )
-}
-
-fn closed<W: Write>(
-    to: &mut W,
-    b: Builder,
-    marks: &[usize; 7168],
-    value: &mut [u8],
-    text: &[u8],
-    ends: &[usize],
-    entries: &mut [usize],
-) -> io::Result<Builder> {
-    after(to, close(b, marks, value, text, ends, entries, &[]))
-}
-
-fn rolled_back<W: Write>(
-    to: &mut W,
-    b: Builder,
-    marks: &[usize; 7168],
-    value: &[u8],
-    text: &[u8],
-    ends: &[usize],
-    entries: &mut [usize],
-) -> io::Result<Builder> {
-    after(to, rollback(b, marks, value, text, ends, entries, &[]))
-}
-
-// A list opened under a name and rolled back.
-fn list_rolled_back<W: Write>(
-    to: &mut W,
-    b: Builder,
-    marks: &[usize; 7168],
-    value: &[u8],
-    text: &mut [u8],
-    ends: &mut [usize],
-    entries: &mut [usize],
-    name: &[u8],
-) -> io::Result<Builder> {
-    let opened = after(
-        to,
-        new_list(b, marks, value, text, ends, entries, &mut [], true, name),
-    )?;
-    rolled_back(to, opened, marks, value, text, ends, entries)
-}
-
-// The builder after a call.
-fn after<W: Write>(to: &mut W, called: Called) -> io::Result<Builder> {
-    let answer = called.answer;
-    match answer {
-        Answer::Done => {}
-        Answer::Refused(number) => refused(to, number)?,
-    }
-    Ok(called.builder)
-}
-
-fn refused<W: Write>(to: &mut W, number: u8) -> io::Result<()> {
-    print::text(to, b"refused ")?;
-    print::decimal(to, number as u64)?;
-    print::text(to, b"\n")
-}
-
-fn line<W: Write>(
-    to: &mut W,
-    case: usize,
-    b: Builder,
-    marks: &[usize; 7168],
-    value: &[u8],
-    text: &[u8],
-    ends: &[usize],
-    entries: &[usize],
-) -> io::Result<()> {
-    let mut out = [0xEEu8; 7];
-    let finished = finish(b, marks, value, text, ends, entries, &[], &mut out);
-    let answer = finished.answer;
-    match answer {
-        FinishAnswer::Written(n) => {
-            print::decimal(to, case as u64)?;
-            print::text(to, b" ")?;
-            print::hex(to, value, finished.builder.counts.value)?;
-            print::text(to, b" ")?;
-            print::hex(to, &out, n)?;
-            print::text(to, b"\n")?;
+impl<const VALUE: usize, const TEXT: usize, const ENDS: usize, const ENTRIES: usize> Case<
+    VALUE,
+    TEXT,
+    ENDS,
+    ENTRIES,
+> {
+    fn new(unique: bool) -> Self {
+        Case {
+            builder: new(unique),
+            marks: [99; 7168],
+            value: [0xEE; VALUE],
+            text: [0xEE; TEXT],
+            ends: [99; ENDS],
+            entries: [99; ENTRIES],
         }
-        FinishAnswer::Refused(number) => refused(to, number)?,
     }
-    Ok(())
+
+    fn top<W: Write>(&mut self, to: &mut W, x: Variant) -> io::Result<()> {
+        self.append(to, None, x)
+    }
+
+    // An int8 field.
+    fn field<W: Write>(&mut self, to: &mut W, name: &[u8], n: i8) -> io::Result<()> {
+        self.append(to, Some(name), Variant::Int8(n))
+    }
+
+    fn append<W: Write>(&mut self, to: &mut W, name: Option<&[u8]>, x: Variant) -> io::Result<()> {
+        let called = append_value(
+            self.builder,
+            &self.marks,
+            &mut self.value,
+            &mut self.text,
+            &mut self.ends,
+            &mut self.entries,
+            &mut [],
+            name.is_some(),
+            name.unwrap_or(b""),
+            x,
+        );
+        self.after(to, called)
+    }
+
+    fn text<W: Write>(&mut self, to: &mut W, bytes: &[u8]) -> io::Result<()> {
+        let called = append_bytes(
+            self.builder,
+            &self.marks,
+            &mut self.value,
+            &mut self.text,
+            &mut self.ends,
+            &mut self.entries,
+            &mut [],
+            false,
+            b"",
+            VariantBytes::Text,
+            bytes,
+        );
+        self.after(to, called)
+    }
+
+    fn list<W: Write>(&mut self, to: &mut W, name: Option<&[u8]>) -> io::Result<()> {
+        let called = new_list(
+            self.builder,
+            &self.marks,
+            &self.value,
+            &mut self.text,
+            &mut self.ends,
+            &mut self.entries,
+            &mut [],
+            name.is_some(),
+            name.unwrap_or(b""),
+        );
+        self.after(to, called)
+    }
+
+    fn object<W: Write>(&mut self, to: &mut W) -> io::Result<()> {
+        let called = new_object(
+            self.builder,
+            &self.marks,
+            &self.value,
+            &mut self.text,
+            &mut self.ends,
+            &mut self.entries,
+            &mut [],
+            false,
+            b"",
+        );
+        self.after(to, called)
+    }
+
+    fn closed<W: Write>(&mut self, to: &mut W) -> io::Result<()> {
+        let called = close(
+            self.builder,
+            &self.marks,
+            &mut self.value,
+            &self.text,
+            &self.ends,
+            &mut self.entries,
+            &[],
+        );
+        self.after(to, called)
+    }
+
+    fn rolled_back<W: Write>(&mut self, to: &mut W) -> io::Result<()> {
+        let called = rollback(
+            self.builder,
+            &self.marks,
+            &self.value,
+            &self.text,
+            &self.ends,
+            &mut self.entries,
+            &[],
+        );
+        self.after(to, called)
+    }
+
+    // The builder after a call.
+    fn after<W: Write>(&mut self, to: &mut W, called: Called) -> io::Result<()> {
+        self.builder = called.builder;
+        let answer = called.answer;
+        match answer {
+            Answer::Done => Ok(()),
+            Answer::Refused(number) => writeln!(to, "refused {number}"),
+        }
+    }
+
+    fn line<W: Write>(&mut self, to: &mut W, number: usize) -> io::Result<()> {
+        let mut out = [0xEEu8; 7];
+        let done = finish(
+            self.builder,
+            &self.marks,
+            &self.value,
+            &self.text,
+            &self.ends,
+            &self.entries,
+            &[],
+            &mut out,
+        );
+        let answer = done.answer;
+        match answer {
+            FinishAnswer::Written(n) => {
+                write!(to, "{number} ")?;
+                print::hex(to, &self.value, done.builder.counts.value)?;
+                write!(to, " ")?;
+                print::hex(to, &out, n)?;
+                writeln!(to)
+            }
+            FinishAnswer::Refused(number) => writeln!(to, "refused {number}"),
+        }
+    }
 }

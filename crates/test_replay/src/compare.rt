@@ -1,159 +1,96 @@
 // What was expected against what came, and the counts.
-use crate::parse::word;
+use crate::parse::number;
 use semantics::Counts;
+use std::fmt;
 use std::io;
 use std::io::Write;
 
-// The script at hand and its call, the calls and differences so far, and whether the input was not as it must be.
-#[derive(Clone, Copy)]
+// The script at hand and its line, and the calls and differences so far.
+#[derive(Clone, Copy, Default)]
 pub struct Tally {
     pub script: usize,
-    pub call: usize,
+    pub line: usize,
     pub calls: usize,
     pub differences: usize,
-    pub malformed: bool,
 }
 
-pub fn started(t: Tally) -> Tally {
-    Tally {
-        script: more(t.script),
-        call: 0,
-        calls: t.calls,
-        differences: t.differences,
-        malformed: false,
+impl fmt::Display for Tally {
+    fn fmt<W: fmt::Write>(&self, f: &mut fmt::Formatter<W>) -> fmt::Result {
+        write!(f, "script {}, call {}", self.script, self.line)
     }
 }
 
-pub fn counted(t: Tally) -> Tally {
-    Tally {
-        script: t.script,
-        call: more(t.call),
-        calls: more(t.calls),
-        differences: t.differences,
-        malformed: false,
+impl Tally {
+    pub fn start(&mut self) {
+        self.script = self.script.saturating_add(1);
+        self.line = 0;
     }
-}
 
-// A line that is no call.
-pub fn passed(t: Tally) -> Tally {
-    Tally {
-        script: t.script,
-        call: more(t.call),
-        calls: t.calls,
-        differences: t.differences,
-        malformed: false,
+    // A line that is no call.
+    pub fn pass(&mut self) {
+        self.line = self.line.saturating_add(1);
     }
-}
 
-// A number: 0 for a call carried out, or the refusal's.
-pub fn answered<W: Write>(to: &mut W, t: Tally, expected: u8, got: u8) -> io::Result<Tally> {
-    number(to, t, b"number", expected as usize, got as usize)
-}
-
-// The six used counts, each expected in eight bytes.
-pub fn used<W: Write>(to: &mut W, t: Tally, c: Counts, expected: &[u8]) -> io::Result<Tally> {
-    let m = c.dictionary;
-    let a = number(to, t, b"used value bytes", expect(expected, 0), c.value)?;
-    let b = number(
-        to,
-        a,
-        b"used names",
-        expect(expected, 8),
-        m.num_field_names(),
-    )?;
-    let d = number(
-        to,
-        b,
-        b"used name bytes",
-        expect(expected, 16),
-        m.metadata_size(),
-    )?;
-    let e = number(to, d, b"used entries", expect(expected, 24), c.entries)?;
-    let f = number(to, e, b"open containers", expect(expected, 32), c.depth)?;
-    number(to, f, b"used undo records", expect(expected, 40), c.undo)
-}
-
-fn expect(bytes: &[u8], from: u8) -> usize {
-    word(bytes, from) as usize
-}
-
-fn number<W: Write>(
-    to: &mut W,
-    t: Tally,
-    what: &[u8],
-    expected: usize,
-    got: usize,
-) -> io::Result<Tally> {
-    if expected == got {
-        return Ok(t);
+    pub fn count(&mut self) {
+        self.pass();
+        self.calls = self.calls.saturating_add(1);
     }
-    place(to, t)?;
-    print::text(to, what)?;
-    print::text(to, b" expected ")?;
-    print::decimal(to, expected as u64)?;
-    print::text(to, b", got ")?;
-    print::decimal(to, got as u64)?;
-    print::text(to, b"\n")?;
-    Ok(different(t))
-}
 
-// The first n bytes.
-pub fn compared<W: Write>(
-    to: &mut W,
-    t: Tally,
-    what: &[u8],
-    bytes: &[u8],
-    n: usize,
-    expected: &[u8],
-) -> io::Result<Tally> {
-    if n <= bytes.len() {
-        if check::same(&bytes[0..n], expected) {
-            return Ok(t);
+    // A number: 0 for a call carried out, or the refusal's.
+    pub fn answered<W: Write>(&mut self, to: &mut W, expected: u8, got: u8) -> io::Result<()> {
+        self.same(to, "number", expected as usize, got as usize)
+    }
+
+    // The six used counts, each expected in eight bytes.
+    pub fn used<W: Write>(&mut self, to: &mut W, c: Counts, expected: &[u8]) -> io::Result<()> {
+        let m = c.dictionary;
+        let names = m.num_field_names();
+        self.same(to, "used value bytes", number(expected, 0), c.value)?;
+        self.same(to, "used names", number(expected, 8), names)?;
+        self.same(
+            to,
+            "used name bytes",
+            number(expected, 16),
+            m.metadata_size(),
+        )?;
+        self.same(to, "used entries", number(expected, 24), c.entries)?;
+        self.same(to, "open containers", number(expected, 32), c.depth)?;
+        self.same(to, "used undo records", number(expected, 40), c.undo)
+    }
+
+    fn same<W: Write>(
+        &mut self,
+        to: &mut W,
+        what: &str,
+        expected: usize,
+        got: usize,
+    ) -> io::Result<()> {
+        if expected == got {
+            return Ok(());
         }
+        self.differences = self.differences.saturating_add(1);
+        let place = *self;
+        writeln!(to, "{place}: {what} expected {expected}, got {got}")
     }
-    place(to, t)?;
-    print::text(to, what)?;
-    print::text(to, b" expected ")?;
-    print::hex(to, expected, expected.len())?;
-    print::text(to, b", got ")?;
-    print::hex(to, bytes, n)?;
-    print::text(to, b"\n")?;
-    Ok(different(t))
-}
 
-pub fn malformed<W: Write>(to: &mut W, t: Tally) -> io::Result<Tally> {
-    place(to, t)?;
-    print::text(to, b"what follows is malformed\n")?;
-    Ok(Tally {
-        script: t.script,
-        call: t.call,
-        calls: t.calls,
-        differences: t.differences,
-        malformed: true,
-    })
-}
-
-fn different(t: Tally) -> Tally {
-    Tally {
-        script: t.script,
-        call: t.call,
-        calls: t.calls,
-        differences: more(t.differences),
-        malformed: false,
+    // The first n bytes.
+    pub fn compared<W: Write>(
+        &mut self,
+        to: &mut W,
+        what: &str,
+        bytes: &[u8],
+        n: usize,
+        expected: &[u8],
+    ) -> io::Result<()> {
+        if n <= bytes.len() && &bytes[..n] == expected {
+            return Ok(());
+        }
+        self.differences = self.differences.saturating_add(1);
+        let place = *self;
+        write!(to, "{place}: {what} expected ")?;
+        print::hex(to, expected, expected.len())?;
+        write!(to, ", got ")?;
+        print::hex(to, bytes, n)?;
+        writeln!(to)
     }
-}
-
-fn place<W: Write>(to: &mut W, t: Tally) -> io::Result<()> {
-    print::text(to, b"script ")?;
-    print::decimal(to, t.script as u64)?;
-    print::text(to, b", call ")?;
-    print::decimal(to, t.call as u64)?;
-    print::text(to, b": ")
-}
-
-fn more(n: usize) -> usize {
-    if n < 1_000_000 {
-        return n + 1;
-    }
-    n
 }

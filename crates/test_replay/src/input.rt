@@ -1,14 +1,27 @@
 // The sample, from standard input: bytes in hexadecimal, in fields with a comma or a line end behind each.
-use crate::parse::word;
+use crate::parse::array;
 use std::io;
 use std::io::{ErrorKind, Read};
 
-// A script's first line: its mark, the number expected of its maker, how many calls it has, the storage that it is lent, and its floor.
+// The input is not as it must be, or it cannot be read or an answer not be written.
+#[derive(Debug, Drop)]
+pub enum Fail {
+    Malformed,
+    Io(io::Error),
+}
+
+impl From<io::Error> for Fail {
+    fn from(e: io::Error) -> Fail {
+        Fail::Io(e)
+    }
+}
+
+// A script's first line: its mark, the number expected of its maker, how many lines it has, the storage that it is lent, and its floor.
 #[derive(Clone, Copy)]
 pub struct Start {
     pub unique: bool,
     pub number: u8,
-    pub calls: usize,
+    pub lines: usize,
     pub value: usize,
     pub text: usize,
     pub ends: usize,
@@ -30,43 +43,32 @@ pub struct Header {
     pub operand: usize,
 }
 
-// How many scripts there are; where that is missing, one, which is not there.
-pub fn read_count<R: Read>(from: &mut R) -> io::Result<usize> {
-    let mut b = [0u8, 1];
+// How many scripts there are.
+pub fn read_count<R: Read>(from: &mut R) -> Result<usize, Fail> {
+    let mut b = [0u8; 2];
     field(from, &mut b, 2)?;
     Ok(two(b[0], b[1]))
 }
 
-// Where a byte is missing, too large a storage.
-pub fn read_start<R: Read>(from: &mut R) -> io::Result<Start> {
+pub fn read_start<R: Read>(from: &mut R) -> Result<Start, Fail> {
     let mut b = [0u8; 22];
-    if !field(from, &mut b, 22)? {
-        b[4] = 255;
-    }
+    field(from, &mut b, 22)?;
     Ok(Start {
         unique: b[0] == 1,
         number: b[1],
-        calls: two(b[2], b[3]),
+        lines: two(b[2], b[3]),
         value: two(b[4], b[5]),
         text: two(b[6], b[7]),
         ends: two(b[8], b[9]),
         entries: two(b[10], b[11]),
         undo: two(b[12], b[13]),
-        floor: floor_of(&b),
+        floor: u64::from_be_bytes(array::<8>(&b, 14)) as usize,
     })
 }
 
-fn floor_of(b: &[u8; 22]) -> usize {
-    word(b, 14) as usize
-}
-
-// Where a byte is missing, there is no such call or too large an output is asked for, too large an operand.
-pub fn read_header<R: Read>(from: &mut R) -> io::Result<Header> {
+pub fn read_header<R: Read>(from: &mut R) -> Result<Header, Fail> {
     let mut b = [0u8; 10];
-    let whole = field(from, &mut b, 10)?;
-    if !whole | (b[0] == 0) | (16 < b[0]) | (4 < b[4]) {
-        b[8] = 255;
-    }
+    field(from, &mut b, 10)?;
     Ok(Header {
         call: b[0],
         argument: b[1],
@@ -79,72 +81,39 @@ pub fn read_header<R: Read>(from: &mut R) -> io::Result<Header> {
 }
 
 fn two(high: u8, low: u8) -> usize {
-    high as usize * 256 + low as usize
+    u16::from_be_bytes([high, low]) as usize
 }
 
-// A line's second and third fields: are they there?
-pub fn fields<R: Read>(
-    from: &mut R,
-    name: &mut [u8],
-    operand: &mut [u8],
-    h: Header,
-) -> io::Result<bool> {
-    if field(from, name, h.name)? {
-        return field(from, operand, h.operand);
+// The next n bytes, into the front of `out`, with a comma or a line end behind them.
+pub fn field<R: Read>(from: &mut R, out: &mut [u8], n: usize) -> Result<(), Fail> {
+    for b in out.get_mut(..n).ok_or(Fail::Malformed)? {
+        *b = byte(from)?;
     }
-    Ok(false)
-}
-
-// The next n bytes, into `out`: are they there, with a comma or a line end behind them?
-fn field<R: Read>(from: &mut R, out: &mut [u8], n: usize) -> io::Result<bool> {
-    let mut i = 0;
-    while i < n {
-        let b = byte(from)?;
-        if 255 < b {
-            return Ok(false);
-        }
-        if out.len() <= i {
-            return Ok(false);
-        }
-        out[i] = b as u8;
-        i += 1;
-    }
-    parted(from)
-}
-
-fn parted<R: Read>(from: &mut R) -> io::Result<bool> {
-    let mut c = [b'0'];
-    fill(from, &mut c)?;
-    Ok((c[0] == b',') | (c[0] == b'\n'))
-}
-
-// The next byte, or 256.
-fn byte<R: Read>(from: &mut R) -> io::Result<usize> {
-    let mut digits = [0u8; 2];
-    fill(from, &mut digits)?;
-    let high = digit(digits[0]);
-    let low = digit(digits[1]);
-    if 15 < high {
-        return Ok(256);
-    }
-    if 15 < low {
-        return Ok(256);
-    }
-    Ok(high * 16 + low)
-}
-
-// Reads until `buf` is full or the input ends.
-fn fill<R: Read>(from: &mut R, buf: &mut [u8]) -> io::Result<()> {
-    match from.read_exact(buf) {
-        Err(e) if e.kind() == ErrorKind::UnexpectedEof => Ok(()),
-        done => done,
+    match next(from)? {
+        b',' | b'\n' => Ok(()),
+        _ => Err(Fail::Malformed),
     }
 }
 
-fn digit(c: u8) -> usize {
+fn byte<R: Read>(from: &mut R) -> Result<u8, Fail> {
+    let high = digit(next(from)?)?;
+    let low = digit(next(from)?)?;
+    Ok(high << 4 | low)
+}
+
+fn digit(c: u8) -> Result<u8, Fail> {
     match c {
-        b'0'..=b'9' => (c - b'0') as usize,
-        b'a'..=b'f' => (c - b'a') as usize + 10,
-        _ => 16,
+        b'0'..=b'9' => Ok(c - b'0'),
+        b'a'..=b'f' => Ok(c - b'a' + 10),
+        _ => Err(Fail::Malformed),
+    }
+}
+
+fn next<R: Read>(from: &mut R) -> Result<u8, Fail> {
+    let mut c = [0u8];
+    match from.read_exact(&mut c) {
+        Ok(()) => Ok(c[0]),
+        Err(e) if e.kind() == ErrorKind::UnexpectedEof => Err(Fail::Malformed),
+        Err(e) => Err(Fail::Io(e)),
     }
 }

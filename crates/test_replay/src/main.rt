@@ -11,299 +11,197 @@ mod parse;
 mod poke;
 
 use builder::{Answer, with_floor};
-use builder_mut::lend;
-use compare::{Tally, answered, compared, counted, malformed, passed, started, used};
-use encoding::slices::min;
-use input::{Header, Start, fields, read_count, read_header, read_start};
+use builder_mut::{Call, lend};
+use compare::Tally;
+use input::{Fail, Header, Start, field, read_count, read_header, read_start};
 use marks::NUMBERS;
-use parse::{call_of, uuid};
-use poke::{altered, overwrite, overwrite_mark};
+use parse::{Line, array, line_of};
+use poke::alter;
 use semantics::Builder;
 use std::io;
 use std::io::{Read, Write};
 
+// The storage of all scripts.
 #[derive(Drop)]
-struct Replay {
-    builder: Builder,
-    tally: Tally,
+struct Storage {
+    value: [u8; 2048],
+    text: [u8; 512],
+    ends: [usize; 64],
+    entries: [usize; 256],
+    undo: [usize; 64],
+    marks: [usize; NUMBERS],
+}
+
+// What a script is lent of it.
+#[derive(Drop)]
+struct Lent<'a> {
+    value: &'a mut [u8],
+    text: &'a mut [u8],
+    ends: &'a mut [usize],
+    entries: &'a mut [usize],
+    undo: &'a mut [usize],
+    marks: &'a mut [usize; NUMBERS],
+}
+
+// A line, with its name and its operand.
+#[derive(Clone, Copy)]
+struct Given<'a> {
+    header: Header,
+    name: &'a [u8],
+    operand: &'a [u8],
 }
 
 fn main(rt: HostRuntime) -> io::Result<()> {
     let from = &mut rt.reader();
     let to = &mut io::writer(&rt);
-    let mut value = [0xEEu8; 2048];
-    let mut text = [0xEEu8; 512];
-    let mut ends = [99usize; 64];
-    let mut entries = [99usize; 256];
-    let mut undo = [99usize; 64];
-    let mut marks = [99usize; NUMBERS];
-    let n = read_count(from)?;
-    let t = scripts(
-        from,
+    let mut storage = Storage {
+        value: [0xEE; 2048],
+        text: [0xEE; 512],
+        ends: [99; 64],
+        entries: [99; 256],
+        undo: [99; 64],
+        marks: [99; NUMBERS],
+    };
+    let mut tally = Tally::default();
+    match scripts(from, to, &mut tally, &mut storage) {
+        Ok(()) => {}
+        Err(Fail::Malformed) => writeln!(to, "{tally}: what follows is malformed")?,
+        Err(Fail::Io(e)) => return Err(e),
+    }
+    writeln!(
         to,
-        n,
-        &mut marks,
-        &mut value,
-        &mut text,
-        &mut ends,
-        &mut entries,
-        &mut undo,
-    )?;
-    print::decimal(to, t.script as u64)?;
-    print::text(to, b" scripts, ")?;
-    print::decimal(to, t.calls as u64)?;
-    print::text(to, b" calls, ")?;
-    print::decimal(to, t.differences as u64)?;
-    print::text(to, b" differences\n")
+        "{} scripts, {} calls, {} differences",
+        tally.script, tally.calls, tally.differences
+    )
 }
 
 fn scripts<R: Read, W: Write>(
     from: &mut R,
     to: &mut W,
-    n: usize,
-    marks: &mut [usize; NUMBERS],
-    value: &mut [u8],
-    text: &mut [u8],
-    ends: &mut [usize],
-    entries: &mut [usize],
-    undo: &mut [usize],
-) -> io::Result<Tally> {
-    let mut t = Tally {
-        script: 0,
-        call: 0,
-        calls: 0,
-        differences: 0,
-        malformed: false,
-    };
-    let mut left = n;
-    while 0 < left {
-        left -= 1;
-        t = script(from, to, t, marks, value, text, ends, entries, undo)?;
+    tally: &mut Tally,
+    storage: &mut Storage,
+) -> Result<(), Fail> {
+    for _ in 0..read_count(from)? {
+        script(from, to, tally, storage)?;
     }
-    Ok(t)
+    Ok(())
 }
 
 fn script<R: Read, W: Write>(
     from: &mut R,
     to: &mut W,
-    t: Tally,
-    marks: &mut [usize; NUMBERS],
-    value: &mut [u8],
-    text: &mut [u8],
-    ends: &mut [usize],
-    entries: &mut [usize],
-    undo: &mut [usize],
-) -> io::Result<Tally> {
-    if t.malformed {
-        return Ok(t);
-    }
+    tally: &mut Tally,
+    storage: &mut Storage,
+) -> Result<(), Fail> {
     let s = read_start(from)?;
-    let r = begun(to, t, s)?;
-    let v = min(s.value, value.len());
-    let x = min(s.text, text.len());
-    let k = min(s.ends, ends.len());
-    let e = min(s.entries, entries.len());
-    let u = min(s.undo, undo.len());
-    let short = (v < s.value) | (x < s.text) | (k < s.ends);
-    if short | (e < s.entries) | (u < s.undo) {
-        return malformed(to, r.tally);
+    let mut b = begun(to, tally, s)?;
+    let mut lent = Lent {
+        value: storage.value.get_mut(..s.value).ok_or(Fail::Malformed)?,
+        text: storage.text.get_mut(..s.text).ok_or(Fail::Malformed)?,
+        ends: storage.ends.get_mut(..s.ends).ok_or(Fail::Malformed)?,
+        entries: storage.entries.get_mut(..s.entries).ok_or(Fail::Malformed)?,
+        undo: storage.undo.get_mut(..s.undo).ok_or(Fail::Malformed)?,
+        marks: &mut storage.marks,
+    };
+    for _ in 0..s.lines {
+        next(from, to, tally, &mut b, &mut lent)?;
     }
-    run(
-        from,
-        to,
-        r,
-        s.calls,
-        &mut value[0..v],
-        &mut text[0..x],
-        &mut ends[0..k],
-        &mut entries[0..e],
-        &mut undo[0..u],
-        marks,
-    )
+    Ok(())
 }
 
-fn begun<W: Write>(to: &mut W, t: Tally, s: Start) -> io::Result<Replay> {
-    let m = with_floor(s.unique, s.floor);
-    let a = m.answer;
-    let b = m.builder;
-    Ok(Replay {
-        builder: b,
-        tally: answered(to, started(t), s.number, number_of(a))?,
-    })
-}
-
-fn number_of(a: Answer) -> u8 {
-    match a {
+fn begun<W: Write>(to: &mut W, tally: &mut Tally, s: Start) -> io::Result<Builder> {
+    let made = with_floor(s.unique, s.floor);
+    let answer = made.answer;
+    let number = match answer {
         Answer::Done => 0,
         Answer::Refused(n) => n,
-    }
+    };
+    tally.start();
+    tally.answered(to, s.number, number)?;
+    Ok(made.builder)
 }
 
-fn run<R: Read, W: Write>(
-    from: &mut R,
-    to: &mut W,
-    begun: Replay,
-    n: usize,
-    value: &mut [u8],
-    text: &mut [u8],
-    ends: &mut [usize],
-    entries: &mut [usize],
-    undo: &mut [usize],
-    marks: &mut [usize; NUMBERS],
-) -> io::Result<Tally> {
-    let mut r = begun;
-    let mut left = n;
-    while 0 < left {
-        left -= 1;
-        r = next(from, to, r, marks, value, text, ends, entries, undo)?;
-    }
-    Ok(r.tally)
-}
-
-// The next line.
+// The next line: a poke, a look at the record, or a call.
 fn next<R: Read, W: Write>(
     from: &mut R,
     to: &mut W,
-    r: Replay,
-    marks: &mut [usize; NUMBERS],
-    value: &mut [u8],
-    text: &mut [u8],
-    ends: &mut [usize],
-    entries: &mut [usize],
-    undo: &mut [usize],
-) -> io::Result<Replay> {
-    if r.tally.malformed {
-        return Ok(r);
-    }
+    tally: &mut Tally,
+    b: &mut Builder,
+    lent: &mut Lent,
+) -> Result<(), Fail> {
     let mut name = [0u8; 512];
     let mut operand = [0u8; 2048];
-    let h = read_header(from)?;
-    if !fields(from, &mut name, &mut operand, h)? {
-        return stopped(to, r);
-    }
-    let n = min(h.name, 512);
-    let m = min(h.operand, 2048);
-    let name = &name[0..n];
-    let operand = &operand[0..m];
-    done(
-        to, r, marks, value, text, ends, entries, undo, h, name, operand,
-    )
-}
-
-fn stopped<W: Write>(to: &mut W, r: Replay) -> io::Result<Replay> {
-    let b = r.builder;
-    Ok(Replay {
-        builder: b,
-        tally: malformed(to, r.tally)?,
-    })
-}
-
-// A poke, a look at the record, or a call.
-fn done<W: Write>(
-    to: &mut W,
-    r: Replay,
-    marks: &mut [usize; NUMBERS],
-    value: &mut [u8],
-    text: &mut [u8],
-    ends: &mut [usize],
-    entries: &mut [usize],
-    undo: &mut [usize],
-    h: Header,
-    name: &[u8],
-    operand: &[u8],
-) -> io::Result<Replay> {
-    let c = h.call;
-    match c {
-        11 => {
-            overwrite(value, text, ends, entries, undo, h, operand);
-            overwrite_mark(marks, h, operand);
-            Ok(poked(r, h, operand))
+    let header = read_header(from)?;
+    field(from, &mut name, header.name)?;
+    field(from, &mut operand, header.operand)?;
+    let given = Given {
+        header,
+        name: name.get(..header.name).ok_or(Fail::Malformed)?,
+        operand: operand.get(..header.operand).ok_or(Fail::Malformed)?,
+    };
+    match line_of(header, given.operand)? {
+        Line::Poke => {
+            tally.pass();
+            lent.overwrite(header, given.operand);
+            alter(b, header, given.operand);
         }
-        12 => looked(to, r, value, h, name, operand),
-        _ => called(
-            to, r, marks, value, text, ends, entries, undo, h, name, operand,
-        ),
+        Line::Dump => looked(to, tally, *b, lent.value, given)?,
+        Line::Call(call) => lent.called(to, tally, b, call, given)?,
     }
-}
-
-fn poked(r: Replay, h: Header, operand: &[u8]) -> Replay {
-    Replay {
-        builder: altered(r.builder, h, operand),
-        tally: passed(r.tally),
-    }
+    Ok(())
 }
 
 // The expected counts stand in the name's place, and the expected value in the operand's.
 fn looked<W: Write>(
     to: &mut W,
-    r: Replay,
+    tally: &mut Tally,
+    b: Builder,
     value: &[u8],
-    h: Header,
-    counts: &[u8],
-    expected: &[u8],
-) -> io::Result<Replay> {
-    let b = r.builder;
-    let c = b.counts;
-    let n = c.value;
-    let t = used(to, passed(r.tally), c, counts)?;
-    if h.argument == 0 {
-        return Ok(Replay {
-            builder: b,
-            tally: t,
-        });
+    given: Given,
+) -> io::Result<()> {
+    tally.pass();
+    tally.used(to, b.counts, given.name)?;
+    if given.header.argument == 0 {
+        return Ok(());
     }
-    Ok(Replay {
-        builder: b,
-        tally: compared(to, t, b"value", value, n, expected)?,
-    })
+    tally.compared(to, "value", value, b.counts.value, given.operand)
 }
 
-fn called<W: Write>(
-    to: &mut W,
-    r: Replay,
-    marks: &mut [usize; NUMBERS],
-    value: &mut [u8],
-    text: &mut [u8],
-    ends: &mut [usize],
-    entries: &mut [usize],
-    undo: &mut [usize],
-    h: Header,
-    name: &[u8],
-    operand: &[u8],
-) -> io::Result<Replay> {
-    let mut space = [0xEEu8; 1024];
-    let size = min(h.size, 1024);
-    let call = call_of(h, operand);
-    let id = uuid(operand);
-    let out = &mut space[0..size];
-    let d = lend(
-        r.builder, marks, call, value, text, ends, entries, undo, h.named, name, operand, id, out,
-    );
-    let b = d.builder;
-    let n = b.counts.value;
-    let t = answered(to, counted(r.tally), h.number, d.number)?;
-    let u = finished(to, t, h, value, n, out, d.written, name, operand)?;
-    Ok(Replay {
-        builder: b,
-        tally: u,
-    })
-}
-
-// Of a finish that must be carried out, the expected dictionary stands in the name's place, and the expected value in the operand's.
-fn finished<W: Write>(
-    to: &mut W,
-    t: Tally,
-    h: Header,
-    value: &[u8],
-    n: usize,
-    out: &[u8],
-    written: usize,
-    dictionary: &[u8],
-    expected: &[u8],
-) -> io::Result<Tally> {
-    if (h.call != 10) | (h.number != 0) {
-        return Ok(t);
+impl Lent<'_> {
+    // Of a finish that must be carried out, the expected dictionary stands in the name's place, and the expected value in the operand's.
+    fn called<W: Write>(
+        &mut self,
+        to: &mut W,
+        tally: &mut Tally,
+        b: &mut Builder,
+        call: Call,
+        given: Given,
+    ) -> io::Result<()> {
+        let mut space = [0xEEu8; 1024];
+        let out = &mut space[..given.header.size.min(1024)];
+        let finish = matches!(call, Call::Finish);
+        let d = lend(
+            *b,
+            self.marks,
+            call,
+            self.value,
+            self.text,
+            self.ends,
+            self.entries,
+            self.undo,
+            given.header.named,
+            given.name,
+            given.operand,
+            array(given.operand, 0),
+            out,
+        );
+        *b = d.builder;
+        tally.count();
+        tally.answered(to, given.header.number, d.number)?;
+        if finish && given.header.number == 0 {
+            tally.compared(to, "value", self.value, b.counts.value, given.operand)?;
+            tally.compared(to, "dictionary", out, d.written, given.name)?;
+        }
+        Ok(())
     }
-    let u = compared(to, t, b"value", value, n, expected)?;
-    compared(to, u, b"dictionary", out, written, dictionary)
 }

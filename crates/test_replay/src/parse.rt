@@ -1,15 +1,20 @@
-// One line's call.
-use crate::input::Header;
+// One line's call. The numbers are those of the input, which tools/replay.py names.
+use crate::input::{Fail, Header};
 use builder_mut::Call;
 use calendar::civil::Civil;
 use calendar::date::Date;
 use value::decimal::{VariantDecimal4, VariantDecimal8, VariantDecimal16};
 use value::variant::{Variant, VariantBytes};
 
-pub fn call_of(h: Header, operand: &[u8]) -> Call {
-    let c = h.call;
+pub enum Line {
+    Poke,
+    Dump,
+    Call(Call),
+}
+
+pub fn line_of(h: Header, operand: &[u8]) -> Result<Line, Fail> {
     let argument = h.argument;
-    match c {
+    let call = match h.call {
         1 => Call::AddFieldName,
         2 => Call::NewList,
         3 => Call::NewObject,
@@ -19,12 +24,16 @@ pub fn call_of(h: Header, operand: &[u8]) -> Call {
         7 => Call::AppendBytes(kind(argument)),
         8 => Call::AppendUuid,
         9 => Call::AppendValue(scalar(argument, operand)),
+        10 => Call::Finish,
+        11 => return Ok(Line::Poke),
+        12 => return Ok(Line::Dump),
         13 => Call::AppendCivil(civil(argument, operand)),
         14 => Call::AppendPacked(argument),
         15 => Call::Mark,
-        16 => Call::ReturnTo(word(operand, 0) as usize),
-        _ => Call::Finish,
-    }
+        16 => Call::ReturnTo(number(operand, 0)),
+        _ => return Err(Fail::Malformed),
+    };
+    Ok(Line::Call(call))
 }
 
 fn kind(code: u8) -> VariantBytes {
@@ -36,56 +45,48 @@ fn kind(code: u8) -> VariantBytes {
     }
 }
 
-pub fn uuid(operand: &[u8]) -> [u8; 16] {
-    let mut u = [0u8; 16];
-    let mut i = 0;
-    while i < 16 {
-        u[i] = at(operand, i);
-        i += 1;
-    }
-    u
-}
-
 // The scalars of fixed size: an integer of 16 bytes, highest first, and a scale. A number that its type does not hold is taken as
 // 0.
 fn scalar(code: u8, operand: &[u8]) -> Variant {
     let n = word(operand, 8);
+    let x = n.cast_signed();
     match code {
         0 => Variant::Null,
         1 => Variant::BooleanTrue,
         2 => Variant::BooleanFalse,
-        3 => Variant::Int8(signed8(n)),
-        4 => Variant::Int16(signed16(n)),
-        5 => Variant::Int32(signed32(n)),
-        6 => Variant::Int64(signed(n)),
-        7 => Variant::Float(half(n)),
+        3 => Variant::Int8(i8::try_from(x).unwrap_or(0)),
+        4 => Variant::Int16(i16::try_from(x).unwrap_or(0)),
+        5 => Variant::Int32(i32::try_from(x).unwrap_or(0)),
+        6 => Variant::Int64(x),
+        7 => Variant::Float(u32::try_from(n).unwrap_or(0)),
         8 => Variant::Double(n),
-        9..=14 => moment(code, n),
-        _ => decimal(code, signed(word(operand, 0)), n, at(operand, 16)),
+        9..=14 => moment(code, x),
+        _ => decimal(code, operand),
     }
 }
 
-fn moment(code: u8, n: u64) -> Variant {
+fn moment(code: u8, x: i64) -> Variant {
     match code {
-        9 => Variant::Date(signed32(n)),
-        10 => Variant::Time(signed(n)),
-        11 => Variant::TimestampMicros(signed(n)),
-        12 => Variant::TimestampNtzMicros(signed(n)),
-        13 => Variant::TimestampNanos(signed(n)),
-        _ => Variant::TimestampNtzNanos(signed(n)),
+        9 => Variant::Date(i32::try_from(x).unwrap_or(0)),
+        10 => Variant::Time(x),
+        11 => Variant::TimestampMicros(x),
+        12 => Variant::TimestampNtzMicros(x),
+        13 => Variant::TimestampNanos(x),
+        _ => Variant::TimestampNtzNanos(x),
     }
 }
 
-fn decimal(code: u8, high: i64, low: u64, scale: u8) -> Variant {
+fn decimal(code: u8, operand: &[u8]) -> Variant {
+    let high = word(operand, 0).cast_signed();
+    let low = word(operand, 8);
+    let integer = low.cast_signed();
+    let [scale] = array::<1>(operand, 16);
     match code {
         15 => Variant::Decimal4(VariantDecimal4 {
-            integer: signed32(low),
+            integer: i32::try_from(integer).unwrap_or(0),
             scale,
         }),
-        16 => Variant::Decimal8(VariantDecimal8 {
-            integer: signed(low),
-            scale,
-        }),
+        16 => Variant::Decimal8(VariantDecimal8 { integer, scale }),
         _ => Variant::Decimal16(VariantDecimal16 { high, low, scale }),
     }
 }
@@ -93,11 +94,11 @@ fn decimal(code: u8, high: i64, low: u64, scale: u8) -> Variant {
 // A date, or a date and a time: four numbers of eight bytes each.
 fn civil(code: u8, operand: &[u8]) -> Civil {
     let date = Date {
-        year: signed(word(operand, 0)),
-        month: signed(word(operand, 8)),
-        day: signed(word(operand, 16)),
+        year: word(operand, 0).cast_signed(),
+        month: word(operand, 8).cast_signed(),
+        day: word(operand, 16).cast_signed(),
     };
-    let time = signed(word(operand, 24));
+    let time = word(operand, 24).cast_signed();
     match code {
         0 => Civil::Date(date),
         1 => Civil::TimestampMicros(date, time),
@@ -106,72 +107,19 @@ fn civil(code: u8, operand: &[u8]) -> Civil {
 }
 
 // Eight bytes, highest first.
-pub fn word(operand: &[u8], from: u8) -> u64 {
-    let mut n = 0;
-    let mut i = 0;
-    while i < 8 {
-        n = (n << 8) | wide(at(operand, from as usize + i));
-        i += 1;
-    }
-    n
+fn word(operand: &[u8], from: usize) -> u64 {
+    u64::from_be_bytes(array(operand, from))
 }
 
-fn wide(b: u8) -> u64 {
-    b as u64
+pub fn number(operand: &[u8], from: usize) -> usize {
+    word(operand, from) as usize
 }
 
-// 0 where there is no byte.
-fn at(operand: &[u8], i: usize) -> u8 {
-    if i < operand.len() {
-        return operand[i];
+// The next N bytes, 0 where there is none.
+pub fn array<const N: usize>(operand: &[u8], from: usize) -> [u8; N] {
+    let mut bytes = [0; N];
+    for (b, x) in bytes.iter_mut().zip(operand.iter().skip(from)) {
+        *b = *x;
     }
-    0
-}
-
-fn half(n: u64) -> u32 {
-    if n < 0x1_0000_0000 {
-        return n as u32;
-    }
-    0
-}
-
-// Two's complement, where `!m` is -1 - m.
-fn signed(n: u64) -> i64 {
-    if n < 0x8000_0000_0000_0000 {
-        return n as i64;
-    }
-    !((0xffff_ffff_ffff_ffff - n) as i64)
-}
-
-fn signed32(n: u64) -> i32 {
-    if n < 0x8000_0000 {
-        return n as i32;
-    }
-    let m = 0xffff_ffff_ffff_ffff - n;
-    if m < 0x8000_0000 {
-        return !(m as i32);
-    }
-    0
-}
-
-fn signed16(n: u64) -> i16 {
-    if n < 0x8000 {
-        return n as i16;
-    }
-    let m = 0xffff_ffff_ffff_ffff - n;
-    if m < 0x8000 {
-        return !(m as i16);
-    }
-    0
-}
-
-fn signed8(n: u64) -> i8 {
-    if n < 0x80 {
-        return n as i8;
-    }
-    let m = 0xffff_ffff_ffff_ffff - n;
-    if m < 0x80 {
-        return !(m as i8);
-    }
-    0
+    bytes
 }

@@ -9,8 +9,8 @@ ghost use Rattle.actions.specs.Actions.{Fronts, Leaves};
 use crate::Moved;
 use container::{Closed, Frame, close_object};
 use list::close_list;
-use refusals::close_number;
-use semantics::{Counts, View};
+use refusals::Seen;
+use semantics::{Counts, Refusal, View};
 
 pub fn close_over(
     v: View,
@@ -19,49 +19,33 @@ pub fn close_over(
     ends: &[usize],
     entries: &mut [usize],
     undo: &[usize],
-) -> Moved
+) -> Result<Moved, Refusal>
     ensures { Leaves v (storage_of value.old text.now ends.now entries.old undo.now)
         close_of result (storage_of value.new text.now ends.now entries.new undo.now) }
 {
-    let d = close_number(v, value, text, ends, entries, undo);
-    let n = d.number;
+    let s = Seen {
+        view: &v,
+        value,
+        text,
+        ends,
+        entries,
+        undo,
+    };
+    let most = s.may_close()?;
     let c = v.counts;
-    if n != 0 {
-        return Moved {
-            counts: c,
-            elements: v.elements,
-            number: n,
-        };
-    }
-    let r = put_header(v, d.largest, value, text, ends, entries);
-    match r {
-        Closed::Done(used) => {
-            let m = c.dictionary;
-            Moved {
-                counts: Counts {
-                    value: used,
-                    entries: v.inner.entries,
-                    undo: v.inner.undo,
-                    depth: c.depth - 1,
-                    dictionary: m,
-                    unique: c.unique,
-                    finished: c.finished,
-                    floor: c.floor,
-                },
-                elements: v.siblings,
-                number: 0,
-            }
-        }
-        Closed::Damaged => Moved {
-            counts: c,
-            elements: v.elements,
-            number: 1,
-        },
-        Closed::NoRoom => Moved {
-            counts: c,
-            elements: v.elements,
-            number: 14,
-        },
+    match put_header(v, most, value, text, ends, entries) {
+        Closed::Done(used) => Ok(Moved {
+            counts: Counts {
+                value: used,
+                entries: v.inner.entries,
+                undo: v.inner.undo,
+                depth: c.depth - 1,
+                ..c
+            },
+            elements: v.siblings,
+        }),
+        Closed::Damaged => Err(Refusal::Damaged),
+        Closed::NoRoom => Err(Refusal::NoRoom),
     }
 }
 
@@ -87,14 +71,14 @@ fn put_header(
             to: v.counts.entries,
             floor: v.counts.floor,
         };
-        let m = v.counts.dictionary;
-        return close_object(f, most, m, text, ends, value, entries);
+        close_object(f, most, v.counts.dictionary, text, ends, value, entries)
+    } else {
+        close_list(
+            v.inner.value,
+            v.counts.value,
+            v.elements,
+            v.counts.floor,
+            value,
+        )
     }
-    close_list(
-        v.inner.value,
-        v.counts.value,
-        v.elements,
-        v.counts.floor,
-        value,
-    )
 }

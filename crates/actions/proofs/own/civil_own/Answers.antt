@@ -1,4 +1,6 @@
-use mathlib.Core.Path.{refl}
+use mathlib.Core.Path.{refl, sym, ap}
+use native.Mathlib.Omega.{arith}
+use Rattle.std.specs.Prelude.{Ok}
 use Rattle.calendar.specs.Answers.{civil_rows, civil_variant}
 use Rattle.calendar.proofs.AnswerLaws.{told_done, told_refused_lem}
 use Rattle.actions.proofs.own.civil_own.Goals as goal
@@ -6,10 +8,11 @@ use Rattle.actions.proofs.own.civil_own.Goals as goal
 pub returns-in-Stored : goal.returns-in-Stored
 returns-in-Stored c =
     let x = c.args.x in
-    let t = told_done _ (civil_rows x) (civil_variant x) (rw c.in-Stored.is at c.variant_of-s.ensures) in
-    rw (t.0, ← t.1) refl
+    let t = told_done _ (civil_rows x) (civil_variant x) (rw c.in-Stored.is at c.variant_of.ensures) in
+    record { number = sym t.0; variant = λ z. ap Ok t.1 }
 
 pub returns-in-OutOfCalendar : goal.returns-in-OutOfCalendar
 returns-in-OutOfCalendar c =
     let x = c.args.x in
-    rw (told_refused_lem 17 (civil_rows x) (civil_variant x) (rw c.in-OutOfCalendar.is at c.variant_of-s.ensures)) refl
+    let e = told_refused_lem 17 (civil_rows x) (civil_variant x) (rw c.in-OutOfCalendar.is at c.variant_of.ensures) in
+    record { number = sym e; variant = λ z. absurd (omega arith) }

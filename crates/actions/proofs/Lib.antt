@@ -4,6 +4,7 @@ pub mod AppendLaws
 pub mod CloseLaws
 pub mod UndoLaws
 pub mod OpenLaws
+pub mod UniqueLaws
 pub mod MarkLaws
 pub mod FinishLaws
 pub mod ElementLaws

@@ -3,14 +3,15 @@ ghost use Rattle.std.specs.Prelude.{◌≡◌, ◌&&◌, ◌≤◌, ◌<◌, set
 ghost use Rattle.semantics.specs.Record.{chained, inner_elements, innermost, mark_now, marks_fit, marks_hold, parent_elements, parent_of, view_of};
 ghost use Rattle.semantics.specs.Record.{encloses as encloses_of, under as under_of};
 ghost use Rattle.actions.specs.Actions.{elements_put};
-ghost use Rattle.builder.specs.Calls.{Makes, answer_of, fresh_of};
+ghost use Rattle.builder.specs.declared.Answer.TheVariants.{Done};
+ghost use Rattle.builder.specs.Calls.{Makes, fresh_of, moved_by, refused_by};
 
 use crate::{Answer, Called};
 use actions::Moved;
 use marks::{NUMBERS, marks_fit};
 use metadata::{metadata_size, num_field_names};
-use refusals::{make_number, saturating_sub};
-use semantics::{Builder, Container, Counts, Mark, View, fresh_counts, no_container};
+use refusals::may_make;
+use semantics::{Builder, Container, Counts, Mark, Refusal, View, fresh_counts, no_container};
 
 // A fresh builder of floor 1, under which every width is the least; children inherit the uniqueness mark.
 pub fn new(unique: bool) -> Builder
@@ -25,10 +26,12 @@ pub fn with_floor(unique: bool, floor: usize) -> Called
     ensures { Makes result unique floor }
 {
     let b = fresh(unique, floor);
-    let n = make_number(floor);
-    Called {
-        answer: answer_of(n),
-        builder: b,
+    match may_make(floor) {
+        Ok(()) => Called {
+            answer: Answer::Done,
+            builder: b,
+        },
+        Err(e) => refused(b, e),
     }
 }
 
@@ -195,7 +198,7 @@ fn fits_at(marks: &[usize; NUMBERS], d: usize, k: Container, n: usize, c: Counts
 fn encloses(k: Container, n: usize, l: Container) -> bool
     ensures { result ≡ encloses_of k n l }
 {
-    let above = saturating_sub(n, saturating_sub(l.value, k.value));
+    let above = n.saturating_sub(l.value.saturating_sub(k.value));
     under(k, l) & (k.object | (above <= 1))
 }
 
@@ -206,26 +209,24 @@ fn under(k: Container, l: Container) -> bool
     (k.value <= l.value) & ((k.names <= l.names) & ((k.text <= l.text) & entries))
 }
 
-pub(crate) fn answer_of(n: u8) -> Answer
-    ensures { result ≡ answer_of n }
+// A refused call leaves the record.
+pub(crate) fn refused(b: Builder, e: Refusal) -> Called
+    ensures { result ≡ refused_by b e }
 {
-    if n == 0 {
-        return Answer::Done;
+    Called {
+        answer: Answer::Refused(e.number()),
+        builder: b,
     }
-    Answer::Refused(n)
 }
 
 // The record with other counts, and other elements of the container that is innermost then.
-pub(crate) fn called(b: Builder, r: Moved) -> Called
-    ensures { result ≡ record {
-      answer = answer_of r.number;
-      builder = record {
-        containers = b.containers;
-        elements = elements_put b.elements r.counts.depth r.elements;
-        counts = r.counts;
-      };
-    } }
+pub(crate) fn called(b: Builder, r: Result<Moved, Refusal>) -> Called
+    ensures { result ≡ moved_by b r }
 {
+    let r = match r {
+        Ok(r) => r,
+        Err(e) => return refused(b, e),
+    };
     let cs = b.containers;
     let ns = b.elements;
     let c = r.counts;
@@ -235,7 +236,7 @@ pub(crate) fn called(b: Builder, r: Moved) -> Called
         counts: c,
     };
     Called {
-        answer: answer_of(r.number),
+        answer: Answer::Done,
         builder: next,
     }
 }
@@ -258,7 +259,7 @@ pub(crate) fn with_elements(ns: [usize; 64], d: usize, n: usize) -> [usize; 64]
 // The record with another container at a place, other elements and other counts.
 pub(crate) fn called_with(b: Builder, ns: [usize; 64], at: usize, k: Container, c: Counts) -> Called
     requires { at < 64 }
-    ensures { result ≡ record { answer = answer_of 0; builder = record { containers = set b.containers at k; elements = ns; counts = c } } }
+    ensures { result ≡ record { answer = Done; builder = record { containers = set b.containers at k; elements = ns; counts = c } } }
 {
     let mut cs = b.containers;
     cs[at] = k;
@@ -268,7 +269,7 @@ pub(crate) fn called_with(b: Builder, ns: [usize; 64], at: usize, k: Container, 
         counts: c,
     };
     Called {
-        answer: answer_of(0),
+        answer: Answer::Done,
         builder: next,
     }
 }

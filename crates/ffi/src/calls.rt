@@ -20,7 +20,8 @@
 // Changed: written in Rattle, over state words.
 ghost use Rattle.std.specs.Prelude.{◌≡◌, false, true, length};
 ghost use Rattle.semantics.specs.Record.{Scalars, append as append_of, close as close_of, fixed, open_in, packed, register as register_of, return_to, roll_back, set_mark, storage_of, uniqueness, uuid as uuid_of};
-ghost use Rattle.refusals.specs.Decide.{name_of};
+ghost use Rattle.semantics.specs.Refusal.{number_told};
+ghost use Rattle.refusals.specs.Decide.{name_in, name_of, size_told};
 ghost use Rattle.actions.specs.Actions.{StoredAs};
 ghost use Rattle.ffi.specs.Dates.{civil_by, date_of};
 ghost use Rattle.ffi.specs.Scalars.{bytes_by, variant_of};
@@ -28,20 +29,17 @@ ghost use Rattle.ffi.specs.Words.{DoesWords, EntersWords, FinishesWords, MakesWo
 
 use crate::WORDS;
 use crate::dates::civil_by;
-use crate::scalars::{kind_of, variant_of};
-use crate::words::{
-    chain_of, counts_of, elements_of, inner_of, marks_hold, moved, parent_of, put_container,
-    put_counts, put_elements, siblings_of, view_of,
-};
+use crate::scalars::{bytes_size_by, kind_of, variant_of};
+use crate::words::{counts_of, moved, put_container, put_counts, put_elements, view_of};
 use actions::{
     Entered, child, close_over, enter_over, finish_over, mark_over, note, packed_own, return_over,
-    rollback_over, unique_over,
+    rollback_over, stored_size, unique_over, value_own,
 };
 use marks::{NUMBERS, mark_at, put_mark};
-use refusals::{make_number, row, saturating_sub};
-use semantics::{View, fresh_counts};
-use value::scalar::{bytes_size, variant_size, write_bytes, write_uuid, write_variant};
-use value::variant::{Variant, ill_formed, out_of_range};
+use refusals::{Seen, may_make, name_if};
+use semantics::{Refusal, fresh_counts};
+use value::scalar::{write_bytes, write_uuid, write_variant};
+use value::variant::Variant;
 
 // A fresh builder; children inherit the uniqueness mark, and offsets, ids and dictionary numbers take no fewer bytes than the floor, 1 to 4.
 // It sets the counts alone. Any other floor is 24, and nothing is made.
@@ -49,9 +47,8 @@ use value::variant::{Variant, ill_formed, out_of_range};
 pub extern "C" fn variant_new(words: &mut [usize; WORDS], unique: bool, floor: usize) -> u8
     ensures { MakesWords result words.old words.new unique floor }
 {
-    let n = make_number(floor);
-    if n != 0 {
-        return n;
+    if let Err(r) = may_make(floor) {
+        return r.number();
     }
     let c = fresh_counts(unique, floor);
     put_counts(words, c);
@@ -74,10 +71,22 @@ pub extern "C" fn variant_add_field_name(
         (storage_of value.now text.old ends.old entries.now undo.now)
         (storage_of value.now text.new ends.new entries.now undo.now) (register_of name.now) }
 {
-    let e = enter(
-        words, marks, value, text, ends, entries, undo, true, name, false, false, 0, 0,
-    );
-    e.number
+    match enter(
+        words,
+        marks,
+        value,
+        text,
+        ends,
+        entries,
+        undo,
+        Some(name),
+        false,
+        false,
+        Ok(0),
+    ) {
+        Ok(_) => 0,
+        Err(r) => r.number(),
+    }
 }
 
 // The innermost container closed.
@@ -146,10 +155,9 @@ pub extern "C" fn variant_append_value(
         (append_of (name_of named name.now) (fixed (variant_of code z low scale))) }
 {
     let x = variant_of(code, z, low, scale);
-    let n = row(out_of_range(x), 7, 0);
-    append_own(
-        words, marks, value, text, ends, entries, undo, named, name, x, n,
-    )
+    let own = value_own(x);
+    let given = name_if(named, name);
+    append_own(words, marks, value, text, ends, entries, undo, given, own)
 }
 
 // A date, or a date and a time of day in microseconds, by the code of the type that it is stored as: 11, a date; 12 and 13, a timestamp in
@@ -176,11 +184,9 @@ pub extern "C" fn variant_append_civil(
         (storage_of value.new text.new ends.new entries.new undo.new)
         (append_of (name_of named name.now) (civil_by code (date_of year month day) time)) }
 {
-    let s = civil_by(code, year, month, day, time);
-    let x = s.variant;
-    append_own(
-        words, marks, value, text, ends, entries, undo, named, name, x, s.number,
-    )
+    let own = civil_by(code, year, month, day, time);
+    let given = name_if(named, name);
+    append_own(words, marks, value, text, ends, entries, undo, given, own)
 }
 
 // Packed decimal, two digits a byte, and a scale: the smallest of the three decimals that holds the number.
@@ -203,14 +209,12 @@ pub extern "C" fn variant_append_packed(
         (storage_of value.new text.new ends.new entries.new undo.new)
         (append_of (name_of named name.now) (packed scale bytes.now)) }
 {
-    let o = packed_own(bytes, scale);
-    let x = o.variant;
-    append_own(
-        words, marks, value, text, ends, entries, undo, named, name, x, o.number,
-    )
+    let own = packed_own(bytes, scale);
+    let given = name_if(named, name);
+    append_own(words, marks, value, text, ends, entries, undo, given, own)
 }
 
-// A scalar that is stored as one of fixed size, with its own number, 0 where it has none.
+// A scalar that is stored as one of fixed size, or its own refusal.
 fn append_own(
     words: &mut [usize; WORDS],
     marks: &[usize; NUMBERS],
@@ -219,26 +223,24 @@ fn append_own(
     ends: &mut [usize],
     entries: &mut [usize],
     undo: &mut [usize],
-    named: bool,
-    name: &[u8],
-    x: Variant,
-    own: u8,
+    name: Option<&[u8]>,
+    own: Result<Variant, Refusal>,
 ) -> u8
-    ensures { (s : Scalars) → StoredAs s x own → DoesWords result words.old words.new marks.now marks.now
+    ensures { (s : Scalars) → StoredAs s own → DoesWords result words.old words.new marks.now marks.now
         (storage_of value.old text.old ends.old entries.old undo.old)
         (storage_of value.new text.new ends.new entries.new undo.new)
-        (append_of (name_of named name.now) s) }
+        (append_of (name_in name.entry) s) }
 {
     let c = counts_of(words);
-    let size = variant_size(x);
-    let e = enter(
-        words, marks, value, text, ends, entries, undo, named, name, true, false, own, size,
-    );
-    if e.number != 0 {
-        return e.number;
-    }
+    let size = stored_size(own);
+    let e = match enter(
+        words, marks, value, text, ends, entries, undo, name, true, false, size,
+    ) {
+        Ok(e) => e,
+        Err(r) => return r.number(),
+    };
     note(e, entries, undo);
-    write_variant(value, c.value, x);
+    write_variant(value, c.value, own.unwrap());
     0
 }
 
@@ -264,14 +266,14 @@ pub extern "C" fn variant_append_bytes(
 {
     let c = counts_of(words);
     let k = kind_of(kind);
-    let size = bytes_size(k, bytes);
-    let n = row(3 < kind, 7, row(ill_formed(k, bytes), 8, 0));
-    let e = enter(
-        words, marks, value, text, ends, entries, undo, named, name, true, false, n, size,
-    );
-    if e.number != 0 {
-        return e.number;
-    }
+    let size = bytes_size_by(kind, bytes);
+    let given = name_if(named, name);
+    let e = match enter(
+        words, marks, value, text, ends, entries, undo, given, true, false, size,
+    ) {
+        Ok(e) => e,
+        Err(r) => return r.number(),
+    };
     note(e, entries, undo);
     write_bytes(value, c.value, k, bytes);
     0
@@ -298,12 +300,23 @@ pub extern "C" fn variant_append_uuid(
     sixteen(uuid);
     let c = counts_of(words);
     let u = *uuid;
-    let e = enter(
-        words, marks, value, text, ends, entries, undo, named, name, true, false, 0, 17,
-    );
-    if e.number != 0 {
-        return e.number;
-    }
+    let given = name_if(named, name);
+    let e = match enter(
+        words,
+        marks,
+        value,
+        text,
+        ends,
+        entries,
+        undo,
+        given,
+        true,
+        false,
+        Ok(17),
+    ) {
+        Ok(e) => e,
+        Err(r) => return r.number(),
+    };
     note(e, entries, undo);
     write_uuid(value, c.value, u);
     0
@@ -371,12 +384,23 @@ fn new_container(
         (open_in (name_of named name.now) object) }
 {
     let c = counts_of(words);
-    let e = enter(
-        words, marks, value, text, ends, entries, undo, named, name, true, true, 0, 0,
-    );
-    if e.number != 0 {
-        return e.number;
-    }
+    let given = name_if(named, name);
+    let e = match enter(
+        words,
+        marks,
+        value,
+        text,
+        ends,
+        entries,
+        undo,
+        given,
+        true,
+        true,
+        Ok(0),
+    ) {
+        Ok(e) => e,
+        Err(r) => return r.number(),
+    };
     let p = note(e, entries, undo);
     let k = child(c, e, p, object);
     put_container(words, c.depth, k);
@@ -401,11 +425,18 @@ pub extern "C" fn variant_with_validate_unique_fields(
         (storage_of value.now text.now ends.now entries.now undo.now) (uniqueness unique) }
 {
     let v = view_of(words, marks);
-    let r = unique_over(v, value, text, ends, entries, undo, unique);
-    if r.number != 0 {
-        return r.number;
-    }
-    let k = r.container;
+    let s = Seen {
+        view: &v,
+        value,
+        text,
+        ends,
+        entries,
+        undo,
+    };
+    let k = match unique_over(&s, unique) {
+        Ok(k) => k,
+        Err(r) => return r.number(),
+    };
     put_container(words, v.counts.depth - 1, k);
     0
 }
@@ -426,10 +457,18 @@ pub extern "C" fn variant_mark(
         (storage_of value.now text.now ends.now entries.now undo.now) set_mark }
 {
     let v = view_of(words, marks);
-    let r = mark_over(v, value, text, ends, entries, undo);
-    if r.number != 0 {
-        return r.number;
-    }
+    let s = Seen {
+        view: &v,
+        value,
+        text,
+        ends,
+        entries,
+        undo,
+    };
+    let r = match mark_over(&s) {
+        Ok(r) => r,
+        Err(e) => return e.number(),
+    };
     let d = v.counts.depth - 1;
     let k = r.container;
     let m = r.mark;
@@ -456,12 +495,12 @@ pub extern "C" fn variant_return_to(
         (return_to mark) }
 {
     let v = view_of(words, marks);
-    let d = saturating_sub(v.counts.depth, 1);
+    let d = v.counts.depth.saturating_sub(1);
     let p = mark_at(marks, d, mark);
-    let r = return_over(v, value, text, ends, entries, undo, mark, p);
-    if r.number != 0 {
-        return r.number;
-    }
+    let r = match return_over(v, value, text, ends, entries, undo, mark, p) {
+        Ok(r) => r,
+        Err(e) => return e.number(),
+    };
     let c = r.counts;
     let k = r.container;
     put_counts(words, c);
@@ -488,18 +527,25 @@ pub extern "C" fn variant_finish(
         written.old written.new }
 {
     let v = view_of(words, marks);
-    let r = finish_over(v, value, text, ends, entries, undo, out);
-    let n = r.number;
-    if n != 0 {
-        return n;
-    }
+    let s = Seen {
+        view: &v,
+        value,
+        text,
+        ends,
+        entries,
+        undo,
+    };
+    let r = match finish_over(&s, out) {
+        Ok(r) => r,
+        Err(e) => return e.number(),
+    };
     let c = r.counts;
     put_counts(words, c);
     *written = r.written;
     0
 }
 
-// A register, an append or an open, up to its entry and its bytes: where its number is 0 the name is added, and the counts and the
+// A register, an append or an open, up to its entry and its bytes: where it is carried out the name is added, and the counts and the
 // innermost's elements are put.
 fn enter(
     words: &mut [usize; WORDS],
@@ -509,38 +555,21 @@ fn enter(
     ends: &mut [usize],
     entries: &[usize],
     undo: &[usize],
-    named: bool,
-    name: &[u8],
+    name: Option<&[u8]>,
     into: bool,
     opens: bool,
-    own: u8,
-    size: usize,
-) -> Entered
+    size: Result<usize, Refusal>,
+) -> Result<Entered, Refusal>
     ensures { EntersWords words.old words.new marks.now
-        (storage_of value.now text.old ends.old entries.now undo.now) (name_of named name.now)
-        into opens own size result text.new ends.new }
+        (storage_of value.now text.old ends.old entries.now undo.now) (name_in name.entry)
+        into opens (number_told size) (size_told size) result text.new ends.new }
 {
     let c = counts_of(words);
-    let k = inner_of(words, c.depth);
-    let p = parent_of(words, c.depth);
-    let v = View {
-        counts: c,
-        inner: k,
-        elements: elements_of(words, c.depth),
-        parent: p,
-        siblings: siblings_of(words, c.depth),
-        chain: chain_of(words, c.depth) & marks_hold(words, marks, c.depth),
-    };
-    let e = enter_over(
-        v, value, text, ends, entries, undo, named, name, into, opens, own, size,
-    );
-    if e.number != 0 {
-        return e;
-    }
-    let d = e.counts;
-    put_counts(words, d);
+    let v = view_of(words, marks);
+    let e = enter_over(v, value, text, ends, entries, undo, name, into, opens, size)?;
+    put_counts(words, e.counts);
     put_elements(words, c.depth, e.elements);
-    e
+    Ok(e)
 }
 
 fn count(bytes: &[u8]) -> usize

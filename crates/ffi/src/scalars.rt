@@ -2,9 +2,11 @@
 // code.
 ghost use Rattle.std.specs.Prelude.{◌≡◌, cond, ltb};
 ghost use Rattle.value.specs.declared.variant.Variant.TheVariants.{Int8 as int8, Int16 as int16, Int32 as int32, Date as date, Decimal4 as decimal4, Float as float};
-ghost use Rattle.ffi.specs.Scalars.{kind_of, no_scalar, variant_of, within};
+ghost use Rattle.ffi.specs.Scalars.{bytes_size_by, kind_of, no_scalar, variant_of, within};
 
+use actions::bytes_own;
 use encoding::signed::mag;
+use semantics::Refusal;
 use value::decimal::{VariantDecimal4, VariantDecimal8, VariantDecimal16};
 use value::variant::{Variant, VariantBytes};
 
@@ -118,4 +120,15 @@ pub(crate) fn kind_of(kind: u8) -> VariantBytes
         return VariantBytes::ShortString;
     }
     VariantBytes::Text
+}
+
+// The bytes that bytes of a kind take, or their own refusal; those of an unknown kind are no scalar.
+pub(crate) fn bytes_size_by(kind: u8, bytes: &[u8]) -> Result<usize, Refusal>
+    ensures { result ≡ bytes_size_by kind bytes.now }
+{
+    if 3 < kind {
+        Err(Refusal::OutOfRange)
+    } else {
+        bytes_own(kind_of(kind), bytes)
+    }
 }

@@ -8,8 +8,7 @@ use crate::WORDS;
 use actions::Moved;
 use marks::{NUMBERS, marks_fit};
 use metadata::{from_parts, metadata_size, num_field_names};
-use refusals::saturating_sub;
-use semantics::{Container, Counts, Mark, ParentEntry, View, no_container};
+use semantics::{Container, Counts, Mark, ParentEntry, Refusal, View, no_container};
 
 // How many words there are.
 fn count(words: &[usize]) -> usize
@@ -191,7 +190,7 @@ pub(crate) fn view_of(words: &[usize; WORDS], marks: &[usize; NUMBERS]) -> View
     }
 }
 
-pub(crate) fn inner_of(words: &[usize; WORDS], d: usize) -> Container
+fn inner_of(words: &[usize; WORDS], d: usize) -> Container
     ensures { result ≡ innermost (containers_of words.now) d }
 {
     if d == 0 {
@@ -200,7 +199,7 @@ pub(crate) fn inner_of(words: &[usize; WORDS], d: usize) -> Container
     container_at(words, d - 1)
 }
 
-pub(crate) fn parent_of(words: &[usize; WORDS], d: usize) -> Container
+fn parent_of(words: &[usize; WORDS], d: usize) -> Container
     ensures { result ≡ parent_of (containers_of words.now) d }
 {
     if d < 2 {
@@ -219,7 +218,7 @@ fn elements_at(words: &[usize; WORDS], d: usize) -> usize
     words[713 + d]
 }
 
-pub(crate) fn elements_of(words: &[usize; WORDS], d: usize) -> usize
+fn elements_of(words: &[usize; WORDS], d: usize) -> usize
     ensures { result ≡ inner_elements (elements_of words.now) d }
 {
     if d == 0 {
@@ -228,7 +227,7 @@ pub(crate) fn elements_of(words: &[usize; WORDS], d: usize) -> usize
     elements_at(words, d - 1)
 }
 
-pub(crate) fn siblings_of(words: &[usize; WORDS], d: usize) -> usize
+fn siblings_of(words: &[usize; WORDS], d: usize) -> usize
     ensures { result ≡ parent_elements (elements_of words.now) d }
 {
     if d < 2 {
@@ -238,7 +237,7 @@ pub(crate) fn siblings_of(words: &[usize; WORDS], d: usize) -> usize
 }
 
 // Are at most 64 open, does no starting mark fall from one to the next, and does no list with a child open in it count too much?
-pub(crate) fn chain_of(words: &[usize; WORDS], d: usize) -> bool
+fn chain_of(words: &[usize; WORDS], d: usize) -> bool
     ensures { result ≡ chained (containers_of words.now) (elements_of words.now) d }
 {
     if 64 < d {
@@ -267,7 +266,7 @@ fn encloses(words: &[usize; WORDS], i: usize) -> bool
     let p = place_of(i - 1);
     let q = place_of(i);
     let n = elements_at(words, i - 1);
-    let above = saturating_sub(n, saturating_sub(words[q], words[p]));
+    let above = n.saturating_sub(words[q].saturating_sub(words[p]));
     under(words, p, q) & (flag(words[p + 7]) | (above <= 1))
 }
 
@@ -283,7 +282,7 @@ fn under(words: &[usize; WORDS], p: usize, q: usize) -> bool
 }
 
 // Are at most 64 open, and are the marks in each at most 16 and in order? Where none is set there is nothing more to see.
-pub(crate) fn marks_hold(words: &[usize; WORDS], marks: &[usize; NUMBERS], d: usize) -> bool
+fn marks_hold(words: &[usize; WORDS], marks: &[usize; NUMBERS], d: usize) -> bool
     ensures { result ≡ (leb d 64 && marks_hold (containers_of words.now) (elements_of words.now) marks.now
         (counts_of words.now) d) }
 {
@@ -365,16 +364,16 @@ fn mark_now(c: Counts, n: usize, unique: bool) -> Mark
     }
 }
 
-// A piece's counts and elements put back where its number is 0, and its number.
-pub(crate) fn moved(words: &mut [usize; WORDS], r: Moved) -> u8
+// A piece's counts and elements put back where it is carried out, and its number.
+pub(crate) fn moved(words: &mut [usize; WORDS], r: Result<Moved, Refusal>) -> u8
     ensures { Puts r result words.old words.new }
 {
-    let n = r.number;
-    if n != 0 {
-        return n;
+    match r {
+        Ok(m) => {
+            put_counts(words, m.counts);
+            put_elements(words, m.counts.depth, m.elements);
+            0
+        }
+        Err(e) => e.number(),
     }
-    let c = r.counts;
-    put_counts(words, c);
-    put_elements(words, c.depth, r.elements);
-    0
 }

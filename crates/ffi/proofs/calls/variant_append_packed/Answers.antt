@@ -7,4 +7,5 @@ use Rattle.ffi.proofs.calls.variant_append_packed.Goals as goal
 pub returns : goal.returns
 returns c =
     let a = c.args in
-    c.append_own.ensures (packed a.scale a.bytes.now) (own_stored (packed a.scale a.bytes.now) (packed_variant a.bytes.now a.scale) refl c.packed_own-o.ensures)
+    rw c.name_if-given.ensures at
+    (c.append_own.ensures (packed a.scale a.bytes.now) (own_stored (packed a.scale a.bytes.now) (packed_variant a.bytes.now a.scale) refl c.packed_own-own.ensures))

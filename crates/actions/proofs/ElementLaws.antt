@@ -4,7 +4,7 @@ use mathlib.Core.Bool.{Bool, true, false, cond, not}
 use mathlib.Core.List.{List, [], ◌∷◌}
 use Prim.Native.Nat.{ℕ, zero, suc, ◌+◌, ◌-◌, ◌≤◌, ◌<◌}
 use native.Mathlib.Omega.{arith}
-use lib.Dec.{eqb, leb, ltb}
+use lib.Dec.{leb, ltb}
 use lib.ListN.{get_or, length, set}
 use borrow.Author.Tests.{ltb-true, ltb-false, lt-ltb, le-ltb, leb-true, leb-false, le-leb, lt-leb}
 use Rattle.semantics.specs.declared.ParentEntry.{ParentEntry}
@@ -12,7 +12,6 @@ use Rattle.semantics.specs.declared.ParentEntry.TheVariants.{New, Replaced}
 use Rattle.semantics.specs.declared.Builder.{Builder}
 use Rattle.semantics.specs.declared.View.{View}
 use Rattle.semantics.specs.Record.{Storage, Call, register, append, open_in, close, roll_back, uniqueness, set_mark, return_to, finish, no_mark, view_of, inner_elements, parent_elements, in_list, is_open}
-use Rattle.semantics.specs.Table.{number_of}
 use Rattle.semantics.specs.Step.{appended, carried_out, closed, elements_after, elements_back, elements_with, registered, rolled_back}
 use Rattle.actions.specs.declared.Moved.{Moved}
 use Rattle.actions.specs.Actions.{elements_left, elements_put, moved_to, one_more, siblings_back}

@@ -3,11 +3,11 @@ use mathlib.Core.Path.{◌≡◌, refl, sym, ◌∙◌, ap}
 use mathlib.Core.Bool.{Bool, true, false, cond, not, ◌&&◌, true≢false}
 use mathlib.Core.List.{List}
 use mathlib.Core.Option.{Option, none, some}
-use Prim.Native.Nat.{ℕ, ◌+◌, ◌*◌, ◌^◌, ◌≤◌, ◌<◌}
+use Prim.Native.Nat.{ℕ, ◌+◌, ◌^◌, ◌≤◌, ◌<◌}
 use native.Mathlib.Omega.{arith}
-use lib.ListN.{length, set}
+use lib.ListN.{length}
 use lib.Dec.{ltb}
-use borrow.Author.Tests.{eq-eqb, ne_eqb, leb-false, leb-true, lt-ltb, not-false, not-true}
+use borrow.Author.Tests.{eq-eqb, ne_eqb, leb-false, leb-true, lt-ltb, not-false}
 use Rattle.encoding.specs.Rows.{first}
 use Rattle.encoding.specs.Slices.{counted, fits}
 use Rattle.metadata.specs.declared.MetadataBuilder.{MetadataBuilder}
@@ -19,7 +19,7 @@ use Rattle.semantics.specs.declared.View.{View}
 use Rattle.semantics.specs.declared.Counts.{Counts}
 use Rattle.std.specs.Prelude.{Some, None, Result, Ok, Err}
 use Rattle.semantics.specs.declared.refusal.Refusal.{Refusal}
-use Rattle.semantics.specs.Refusal.{number_told, refusal_number}
+use Rattle.semantics.specs.Refusal.{refusal_number}
 use Rattle.semantics.proofs.RefusalLaws.{number_some}
 use Rattle.semantics.specs.Record.{Storage, Call, in_list, in_object, inner_size, unique_now}
 use Rattle.semantics.specs.Table.{number_of, held, live_under, names_full, entries_full, undo_full}

@@ -1,12 +1,12 @@
 -- A mark set, and the return to one.
-use mathlib.Core.Path.{◌≡◌, refl, sym, ◌∙◌}
+use mathlib.Core.Path.{◌≡◌, sym, ◌∙◌}
 use mathlib.Core.Bool.{true, false, not, true≢false}
 use mathlib.Core.List.{List}
-use Prim.Native.Nat.{ℕ, zero, suc, ◌+◌, ◌-◌, ◌<◌}
+use Prim.Native.Nat.{ℕ, zero, suc, ◌-◌, ◌<◌}
 use native.Mathlib.Omega.{arith}
 use lib.Dec.{eqb, leb}
 use lib.ListN.{length}
-use borrow.Author.Tests.{eq-eqb, ne_eqb, leb-true, leb-false, le-leb, ltb-true, ltb-false, not-false}
+use borrow.Author.Tests.{eq-eqb, leb-true, leb-false, le-leb, ltb-true, ltb-false, not-false}
 use Rattle.container.specs.Entries.{room_for}
 use Rattle.container.specs.Undo.{undone_in}
 use Rattle.semantics.specs.declared.Builder.{Builder}
@@ -18,7 +18,7 @@ use Rattle.std.specs.Prelude.{Ok}
 use Rattle.semantics.specs.Record.{Storage, set_mark, return_to, chained, container_at, is_open, mark_at, slot_of, storage_of, view_of}
 use Rattle.semantics.specs.Damage.{misplaced_inner, over_used, unchained}
 use Rattle.semantics.specs.Table.{number_of}
-use Rattle.semantics.specs.Step.{entries_returned, mark_to, new_mark, returned, with_marks, with_unique}
+use Rattle.semantics.specs.Step.{entries_returned, mark_to, returned, with_marks, with_unique}
 use Rattle.semantics.proofs.Demand1.{none_at}
 use Rattle.refusals.proofs.ViewLaws.{Within, neither, undamaged_unbroken, within}
 use Rattle.semantics.proofs.ViewLaws.{both, inner_at, mark_between}

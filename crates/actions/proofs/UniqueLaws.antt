@@ -1,5 +1,5 @@
 -- The uniqueness mark of an innermost container.
-use mathlib.Core.Path.{◌≡◌, refl, sym, ◌∙◌}
+use mathlib.Core.Path.{◌≡◌}
 use mathlib.Core.List.{List}
 use mathlib.Core.Bool.{Bool, false, ◌&&◌, ◌||◌, and-eq-true_iff}
 use Prim.Native.Nat.{ℕ, ◌-◌, ◌≤◌, ◌<◌}

@@ -27,10 +27,7 @@ pub fn with_floor(unique: bool, floor: usize) -> Called
 {
     let b = fresh(unique, floor);
     match may_make(floor) {
-        Ok(()) => Called {
-            answer: Answer::Done,
-            builder: b,
-        },
+        Ok(()) => done(b),
         Err(e) => refused(b, e),
     }
 }
@@ -209,6 +206,15 @@ fn under(k: Container, l: Container) -> bool
     (k.value <= l.value) & ((k.names <= l.names) & ((k.text <= l.text) & entries))
 }
 
+fn done(b: Builder) -> Called
+    ensures { result ≡ record { answer = Done; builder = b } }
+{
+    Called {
+        answer: Answer::Done,
+        builder: b,
+    }
+}
+
 // A refused call leaves the record.
 pub(crate) fn refused(b: Builder, e: Refusal) -> Called
     ensures { result ≡ refused_by b e }
@@ -235,10 +241,7 @@ pub(crate) fn called(b: Builder, r: Result<Moved, Refusal>) -> Called
         elements: with_elements(ns, c.depth, r.elements),
         counts: c,
     };
-    Called {
-        answer: Answer::Done,
-        builder: next,
-    }
+    done(next)
 }
 
 // The elements with n of the innermost of d containers.
@@ -268,8 +271,5 @@ pub(crate) fn called_with(b: Builder, ns: [usize; 64], at: usize, k: Container, 
         elements: ns,
         counts: c,
     };
-    Called {
-        answer: Answer::Done,
-        builder: next,
-    }
+    done(next)
 }

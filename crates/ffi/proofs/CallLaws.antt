@@ -1,6 +1,6 @@
 -- A call over state words, from the call over pieces.
 use mathlib.Core.Path.{◌≡◌, refl, sym, ◌∙◌, ap, subst}
-use mathlib.Core.Bool.{Bool, true, false, cond, true≢false}
+use mathlib.Core.Bool.{Bool, true, false}
 use mathlib.Core.List.{List}
 use mathlib.Core.Option.{Option, some}
 use Rattle.std.specs.Prelude.{Result, Ok, Err}
@@ -9,15 +9,15 @@ use Rattle.semantics.specs.Refusal.{number_told, refusal_number}
 use Rattle.semantics.proofs.RefusalLaws.{number_some}
 use Prim.Native.Nat.{ℕ, ◌+◌, ◌-◌, ◌<◌, ◌≤◌}
 use native.Mathlib.Omega.{arith}
-use lib.Dec.{eqb, leb, ltb}
+use lib.Dec.{leb, ltb}
 use lib.ListN.{length, set}
 use lib.Seq.{get_or-set_same}
-use borrow.Author.Tests.{eqb-true, eqb-false, eq-eqb, ne_eqb, leb-true, ltb-true, lt-ltb, not-false}
+use borrow.Author.Tests.{eq-eqb, ne_eqb, leb-true, ltb-true, lt-ltb, not-false}
 use Rattle.encoding.specs.Rows.{first}
 use Rattle.encoding.specs.declared.slices.Placed.{Placed}
 use Rattle.encoding.specs.Slices.{Writes}
 use Rattle.value.specs.declared.variant.Variant.{Variant}
-use Rattle.value.specs.Scalar.{ill_formed, scalar_bytes, stored_bytes, stored_variant}
+use Rattle.value.specs.Scalar.{scalar_bytes, stored_bytes, stored_variant}
 use Rattle.metadata.specs.Names.{Name}
 use Rattle.semantics.specs.declared.Builder.{Builder}
 use Rattle.semantics.specs.declared.Container.{Container}

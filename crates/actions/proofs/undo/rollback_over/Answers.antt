@@ -1,5 +1,4 @@
-use mathlib.Core.Path.{refl, sym}
-use Rattle.semantics.specs.Record.{storage_of}
+use mathlib.Core.Path.{refl}
 use Rattle.actions.proofs.UndoLaws.{leaves_undone, rollback_open}
 use Rattle.actions.proofs.undo.rollback_over.Goals as goal
 

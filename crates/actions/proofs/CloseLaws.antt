@@ -9,7 +9,6 @@ use lib.ListN.{length}
 use borrow.Author.Tests.{ltb-true, ltb-false, le-leb, ne_eqb}
 use Rattle.encoding.specs.Rows.{first}
 use Rattle.encoding.specs.Slices.{counted, fits}
-use Rattle.std.specs.Prelude.{Ok}
 use Rattle.container.specs.Layout.{largest}
 use Rattle.container.specs.Entries.{ids_of, room_for}
 use Rattle.container.specs.Close.{Closed, ClosesObject, closed_number, freed}
@@ -20,7 +19,11 @@ use Rattle.semantics.specs.Record.{Storage, close, inner_entries, is_open, names
 use Rattle.semantics.specs.Damage.{bad_floor, damaged, fallen_ends, misplaced_inner, misread, over_used, unchained, uncounted}
 use Rattle.semantics.specs.Table.{header, number_of, too_long}
 use Rattle.semantics.specs.Step.{closed, entries_closed, with_counts}
-use Rattle.refusals.specs.declared.Closing.{Closing}
+use Rattle.std.specs.Prelude.{Result, Ok, Err}
+use Rattle.semantics.specs.declared.refusal.Refusal.{Refusal}
+use Rattle.semantics.specs.Refusal.{refusal_number}
+use Rattle.semantics.proofs.RefusalLaws.{number_some}
+use Rattle.actions.specs.declared.Moved.{Moved}
 use Rattle.refusals.specs.Decide.{ClosesBy, broken_of}
 use Rattle.refusals.proofs.ViewLaws.{broken_none, damaged_none, entries_within, grown_within, neither, past, undamaged_unbroken}
 use Rattle.actions.specs.Actions.{Fronts, Leaves, damaged_front, frame_of}
@@ -49,14 +52,14 @@ fronts_list {l = l} {r = r} e q = record { front = rw e q; entries_left = rw e (
 -- ---- the first three rows
 
 -- one of them holds: it is the number
-pub closes_early : {v : View} {l : Storage} {d : Closing} → ClosesBy v l d → (d.number ≡ 0 → ⊥) → Leaves v l close (record { counts = v.counts; elements = v.elements; number = d.number }) l
+pub closes_early : {v : View} {l : Storage} {e f : Refusal} {r : Result Moved Refusal} → ClosesBy v l (Err e) → r ≡ Err f → f ≡ e → Leaves v l close r l
 unfolding first number_of
-closes_early {v} {l} {d} e q =
-    refuses (go (over_used v l) (unchained v) (bad_floor v) (fallen_ends v l) (misplaced_inner v l) (uncounted v l) v.counts.finished (not (is_open v)) _ e.number) q
+closes_early {v} {l} {e} a p i =
+    refuses (go (over_used v l) (unchained v) (bad_floor v) (fallen_ends v l) (misplaced_inner v l) (uncounted v l) v.counts.finished (not (is_open v)) _ a.number) p i
   where
     go : (a b c f m w x y : Bool) (z : ℕ)
-        → d.number ≡ cond (eqb (cond x 2 (cond y 3 0)) 0) (cond (a || (b || (c || (f || m)))) 1 0) (cond (a || (b || (c || (f || (m || w))))) 1 (cond x 2 (cond y 3 0)))
-        → d.number ≡ cond (a || (b || (c || (f || (m || w))))) 1 (cond x 2 (cond y 3 z))
+        → refusal_number e ≡ cond (eqb (cond x 2 (cond y 3 0)) 0) (cond (a || (b || (c || (f || m)))) 1 0) (cond (a || (b || (c || (f || (m || w))))) 1 (cond x 2 (cond y 3 0)))
+        → refusal_number e ≡ cond (a || (b || (c || (f || (m || w))))) 1 (cond x 2 (cond y 3 z))
     go a b c f m w true y z h = h
     go a b c f m w false true z h = h
     go true b c f m w false false z h = h
@@ -64,7 +67,7 @@ closes_early {v} {l} {d} e q =
     go false false true f m w false false z h = h
     go false false false true m w false false z h = h
     go false false false false true w false false z h = h
-    go false false false false false w false false z h = absurd (q h)
+    go false false false false false w false false z h = absurd (number_some e h)
 
 -- none of them holds but by a list's data, and m is the largest id
 pub record Closable (v : View) (l : Storage) (m : ℕ) : Type 0 where
@@ -86,17 +89,21 @@ front_damage v l e i =
     go true w = refl
     go false w = refl
 
+most_told : Result ℕ Refusal → ℕ
+most_told (Ok m) = m
+most_told (Err e) = 0
+
 -- as the code finds it
-pub closable : {v : View} {l : Storage} {d : Closing} → ClosesBy v l d → d.number ≡ 0 → Closable v l d.largest
-unfolding first number_of
-closable {v} {l} {d} e q =
-    let c = go v.counts.finished (is_open v) (damaged v l (misread v l close)) (damaged v l (fallen_ends v l || misplaced_inner v l)) (sym e.number ∙ q) in
+pub closable : {v : View} {l : Storage} {m : ℕ} → ClosesBy v l (Ok m) → Closable v l m
+unfolding first number_of most_told
+closable {v} {l} e =
+    let c = go v.counts.finished (is_open v) (damaged v l (misread v l close)) (damaged v l (fallen_ends v l || misplaced_inner v l)) (sym e.number) in
     let b = undamaged_unbroken v l (fallen_ends v l || misplaced_inner v l) c.2 in
     let n = neither (fallen_ends v l) (misplaced_inner v l) (sym (damaged_none v l (fallen_ends v l || misplaced_inner v l) b) ∙ c.2) in
     record {
       depth = omega (arith, ltb-true 0 v.counts.depth c.1);
       damage = front_damage v l b c.1;
-      most = rw b at e.largest_id;
+      most = ap most_told (e.largest_id (sym e.number));
       number = rw (damaged_none v l (misread v l close) b, n.0, n.1, c.0, c.1);
     }
   where
@@ -117,16 +124,16 @@ fronts_number {v} {l} k f =
 
 -- carried out
 pub leaves_closed : {v : View} {l : Storage} {m : ℕ} {r : Closed} {value entries : List ℕ} {used : ℕ} → Closable v l m → Fronts v l r value entries → r ≡ Ok used
-    → Leaves v l close (record { counts = with_counts v.counts used v.inner.entries v.inner.undo (v.counts.depth - 1) v.counts.dictionary; elements = v.siblings; number = 0 })
+    → Leaves v l close (Ok (record { counts = with_counts v.counts used v.inner.entries v.inner.undo (v.counts.depth - 1) v.counts.dictionary; elements = v.siblings }))
     (storage_of value l.text l.ends entries l.undo)
 unfolding closed
 leaves_closed {v} {l} {used = used} k f e =
     let z : number_of v l close ≡ 0 = sym (fronts_number k f) ∙ ap closed_number e in
     let u : used ≡ v.counts.value + length (header v l) = rw e at f.front.used in
-    record { number = sym z; counts = rw (z, u); elements = rw z; storage = rw (z, f.front.bytes, f.entries_left, e) }
+    record { number = sym z; moved = λ p. rw u; storage = rw (z, f.front.bytes, f.entries_left, e) }
 
 -- refused: no room, or a list's data that is not as many values as it counts
-pub leaves_refused : {v : View} {l : Storage} {m n : ℕ} {r : Closed} {value entries : List ℕ} → Closable v l m → Fronts v l r value entries → closed_number r ≡ n → (n ≡ 0 → ⊥)
-    → Leaves v l close (record { counts = v.counts; elements = v.elements; number = n }) (storage_of value l.text l.ends entries l.undo)
-leaves_refused {v} {l} {n = n} {r = r} k f e z =
-    rw (f.front.bytes, f.entries_left, ne_eqb (closed_number r) 0 (λ h. z (sym e ∙ h))) (refuses (sym e ∙ fronts_number k f) z)
+pub leaves_refused : {v : View} {l : Storage} {m : ℕ} (n : Refusal) {r : Closed} {value entries : List ℕ} → Closable v l m → Fronts v l r value entries → closed_number r ≡ refusal_number n
+    → Leaves v l close (Err n) (storage_of value l.text l.ends entries l.undo)
+leaves_refused n {r = r} k f e =
+    rw (f.front.bytes, f.entries_left, ne_eqb (closed_number r) 0 (λ h. number_some n (sym e ∙ h))) (refuses (sym e ∙ fronts_number k f) refl refl)

@@ -4,7 +4,7 @@ use mathlib.Core.Bool.{Bool, true, false, cond, not}
 use mathlib.Core.List.{List, [], ◌∷◌}
 use Prim.Native.Nat.{ℕ, zero, suc, ◌+◌, ◌-◌, ◌≤◌, ◌<◌}
 use native.Mathlib.Omega.{arith}
-use lib.Dec.{eqb, leb, ltb}
+use lib.Dec.{leb, ltb}
 use lib.ListN.{get_or, length, set}
 use borrow.Author.Tests.{ltb-true, ltb-false, lt-ltb, le-ltb, leb-true, leb-false, le-leb, lt-leb}
 use Rattle.semantics.specs.declared.ParentEntry.{ParentEntry}
@@ -12,10 +12,9 @@ use Rattle.semantics.specs.declared.ParentEntry.TheVariants.{New, Replaced}
 use Rattle.semantics.specs.declared.Builder.{Builder}
 use Rattle.semantics.specs.declared.View.{View}
 use Rattle.semantics.specs.Record.{Storage, Call, register, append, open_in, close, roll_back, uniqueness, set_mark, return_to, finish, no_mark, view_of, inner_elements, parent_elements, in_list, is_open}
-use Rattle.semantics.specs.Table.{number_of}
 use Rattle.semantics.specs.Step.{appended, carried_out, closed, elements_after, elements_back, elements_with, registered, rolled_back}
 use Rattle.actions.specs.declared.Moved.{Moved}
-use Rattle.actions.specs.Actions.{Leaves, elements_left, elements_put, one_more, siblings_back}
+use Rattle.actions.specs.Actions.{elements_left, elements_put, moved_to, one_more, siblings_back}
 
 -- what stands there, put there again
 set_again : (ns : List ℕ) (i : ℕ) → set ns i (get_or ns i 0) ≡ ns
@@ -104,16 +103,10 @@ left_done b ms l set_mark h = absurd h
 left_done b ms l (return_to j) h = absurd h
 left_done b ms l (finish out) h = absurd h
 
--- THE ELEMENTS that such a call leaves in the record
-pub elements_left_lem : (b : Builder) (ms : List ℕ) (l : Storage) (c : Call) {r : Moved} {e : Storage} → Stays c → Leaves (view_of b ms) l c r e
-    → elements_put b.elements r.counts.depth r.elements ≡ cond (eqb (number_of (view_of b ms) l c) 0) (elements_after (view_of b ms) no_mark c b.elements) b.elements
-elements_left_lem b ms l c {r} {e} h q = rw (q.counts, q.elements) (go (eqb (number_of (view_of b ms) l c) 0))
-  where
-    go : (t : Bool)
-        → elements_put b.elements (cond t (carried_out (view_of b ms) l no_mark c).counts b.counts).depth (cond t (elements_left (view_of b ms) no_mark c) (view_of b ms).elements)
-        ≡ cond t (elements_after (view_of b ms) no_mark c b.elements) b.elements
-    go true = left_done b ms l c h
-    go false = put_same b.elements b.counts.depth
+-- THE ELEMENTS that such a call leaves in the record, where it is carried out
+pub elements_left_lem : (b : Builder) (ms : List ℕ) (l : Storage) (c : Call) {m : Moved} → Stays c → m ≡ moved_to (view_of b ms) l c
+    → elements_put b.elements m.counts.depth m.elements ≡ elements_after (view_of b ms) no_mark c b.elements
+elements_left_lem b ms l c h q = rw q (left_done b ms l c h)
 
 -- ---- a list with a child open in it counts at most one above its data bytes: without the sum, which a machine's numbers might not hold
 pub one_above : (n x : ℕ) → leb (n - x) 1 ≡ leb n (x + 1)

@@ -9,9 +9,7 @@ use lib.ListN.{length}
 use borrow.Author.Tests.{ne_eqb, not-false}
 use Rattle.encoding.specs.Rows.{first}
 use Rattle.encoding.specs.Slices.{counted}
-use Rattle.std.specs.Prelude.{Result, Ok, Err}
 use Rattle.metadata.specs.declared.FinishError.{FinishError}
-use Rattle.metadata.specs.declared.FinishError.TheVariants.{Damaged, NoRoom}
 use Rattle.metadata.specs.Names.{intact, field_names, text_size}
 use Rattle.metadata.specs.Bytes.{size_of}
 use Rattle.metadata.specs.Calls.{FinishesDictionary, finish_number, finishes}
@@ -23,13 +21,18 @@ use Rattle.semantics.specs.Table.{number_of}
 use Rattle.semantics.specs.Step.{dictionary_of, finished}
 use Rattle.refusals.specs.Decide.{broken_of, finish_by}
 use Rattle.refusals.proofs.ViewLaws.{broken_finish, broken_number, damaged_none, ends_read, past}
+use Rattle.std.specs.Prelude.{Result, Ok, Err}
+use Rattle.semantics.specs.declared.refusal.Refusal.{Refusal}
+use Rattle.semantics.specs.Refusal.{refusal_number}
+use Rattle.semantics.proofs.RefusalLaws.{number_some}
+use Rattle.actions.specs.declared.Ended.{Ended}
 use Rattle.actions.specs.Actions.{Ends}
 
--- a refused finish leaves the counts and its output
-ends_refused : {v : View} {l : Storage} {out : List ℕ} {n : ℕ} → n ≡ number_of v l (finish out) → (n ≡ 0 → ⊥) → Ends v l out (record { counts = v.counts; number = n; written = 0 }) out
-ends_refused {n = n} e q =
-    let z = rw e at (ne_eqb n 0 q) in
-    record { number = e; counts = rw z; written = rw z; output = rw z }
+-- a refused finish leaves its output
+ends_refused : {v : View} {l : Storage} {out : List ℕ} {e f : Refusal} {r : Result Ended Refusal} → refusal_number e ≡ number_of v l (finish out) → r ≡ Err f → f ≡ e → Ends v l out r out
+ends_refused {v} {l} {out} {e} n q i =
+    let z = ne_eqb (number_of v l (finish out)) 0 (λ p. number_some e (n ∙ p)) in
+    rw (q, i) (record { number = n; ended = λ p. absurd (number_some e (n ∙ p)); output = rw z })
 
 -- ---- by `finish_by`: rows 2, 4 and 15, with row 1 where one of them holds, else of row 1 what every call asks
 
@@ -47,12 +50,12 @@ unfolding first number_of
 early_number v l out {n} e q b = four_rows (damaged v l (fallen_ends v l)) v.counts.finished (is_open v) (eqb v.counts.value 0) _ n (rw b at e) q
 
 -- one of them holds: it is the number
-pub finishes_early : {v : View} {l : Storage} {out : List ℕ} {n : ℕ} → n ≡ finish_by v l out → (n ≡ 0 → ⊥) → Ends v l out (record { counts = v.counts; number = n; written = 0 }) out
-finishes_early {v} {l} {out} {n} e q = ends_refused (go (broken_of v l) refl) q
+pub finishes_early : {v : View} {l : Storage} {out : List ℕ} {e f : Refusal} {r : Result Ended Refusal} → refusal_number e ≡ finish_by v l out → r ≡ Err f → f ≡ e → Ends v l out r out
+finishes_early {v} {l} {out} {e} n q i = ends_refused (go (broken_of v l) refl) q i
   where
-    go : (b : Bool) → broken_of v l ≡ b → n ≡ number_of v l (finish out)
-    go true b = e ∙ (broken_finish v l out b ∙ sym (broken_number v l (finish out) b))
-    go false b = early_number v l out e q b
+    go : (b : Bool) → broken_of v l ≡ b → refusal_number e ≡ number_of v l (finish out)
+    go true b = n ∙ (broken_finish v l out b ∙ sym (broken_number v l (finish out) b))
+    go false b = early_number v l out n (number_some e) b
 
 -- none of them holds: the name ends and row 16 are left, which the dictionary asks
 pub record Finishable (v : View) (l : Storage) (out : List ℕ) : Type 0 where
@@ -67,10 +70,10 @@ none_holds b m false false true e = let z = (past m 0 15 e).1 in absurd (omega a
 none_holds b m false false false e = ((past b 0 0 e).0, refl, refl, refl)
 
 -- as the code finds it
-pub finishable : {v : View} {l : Storage} {out : List ℕ} {n : ℕ} → n ≡ finish_by v l out → n ≡ 0 → Finishable v l out
+pub finishable : {v : View} {l : Storage} {out : List ℕ} → finish_by v l out ≡ 0 → Finishable v l out
 unfolding first number_of finishes fallen_ends
-finishable {v} {l} {out} e q =
-    let c = none_holds (broken_of v l) (damaged v l (fallen_ends v l)) v.counts.finished (is_open v) (eqb v.counts.value 0) (sym e ∙ q) in
+finishable {v} {l} {out} q =
+    let c = none_holds (broken_of v l) (damaged v l (fallen_ends v l)) v.counts.finished (is_open v) (eqb v.counts.value 0) q in
     let d = damaged_none v l (fallen_ends v l) c.0 in
     record { number = rw (d, c.1, c.2, c.3, ends_read v l c.0) (go (leb (size_of v.counts.floor (field_names v.counts.dictionary) (text_size v.counts.dictionary)) (counted (length out)))) }
   where
@@ -97,24 +100,19 @@ module _ {v : View} {l : Storage} {out : List ℕ} {r : Result ℕ FinishError} 
   same_number e = sym f.number ∙ e
 
   -- carried out
-  pub ends_written : {size : ℕ} → r ≡ Ok size
-      → Ends v l out (record { counts = record { value = v.counts.value; entries = v.counts.entries; undo = v.counts.undo; depth = v.counts.depth; dictionary = v.counts.dictionary; unique = v.counts.unique; finished = true; floor = v.counts.floor }; number = 0; written = size }) left
-  unfolding finished dictionary_of
+  pub ends_written : {size : ℕ} → r ≡ Ok size → Ends v l out (Ok (record { counts = finished v.counts; written = size })) left
+  unfolding dictionary_of finished
   ends_written {size} e =
       let z = same_number (ap finish_number e) in
       let s : size ≡ size_of v.counts.floor (field_names v.counts.dictionary) (text_size v.counts.dictionary) = rw (z, e) at f.size in
-      record { number = rw (k.number, z); counts = rw (k.number, z); written = rw (k.number, z) (s ∙ sym (dictionary_bytes_lem v l (written_intact v l out z))); output = rw (k.number, z) (rw z at f.bytes) }
+      record {
+        number = sym (k.number ∙ z);
+        ended = λ p. rw (s ∙ sym (dictionary_bytes_lem v l (written_intact v l out z)));
+        output = rw (k.number, z) (rw z at f.bytes);
+      }
 
   -- refused, with the dictionary's number
-  ends_none : {n : ℕ} → finish_number r ≡ n → (n ≡ 0 → ⊥) → Ends v l out (record { counts = v.counts; number = n; written = 0 }) left
-  ends_none {n} e q =
+  pub ends_none : (n : Refusal) → finish_number r ≡ refusal_number n → Ends v l out (Err n) left
+  ends_none n e =
       let z = same_number e in
-      rw (f.bytes, z, ne_eqb n 0 q) (ends_refused (sym (k.number ∙ z)) q)
-
-  -- a name end falls
-  pub ends_damaged : r ≡ Err Damaged → Ends v l out (record { counts = v.counts; number = 1; written = 0 }) left
-  ends_damaged e = ends_none (ap finish_number e) (λ h. omega arith)
-
-  -- no room
-  pub ends_full : r ≡ Err NoRoom → Ends v l out (record { counts = v.counts; number = 16; written = 0 }) left
-  ends_full e = ends_none (ap finish_number e) (λ h. omega arith)
+      rw (f.bytes, z, ne_eqb (refusal_number n) 0 (number_some n)) (ends_refused (sym (k.number ∙ z)) refl refl)

@@ -1,12 +1,12 @@
 -- A mark set, and the return to one.
-use mathlib.Core.Path.{◌≡◌, refl, sym, ◌∙◌}
+use mathlib.Core.Path.{◌≡◌, sym, ◌∙◌}
 use mathlib.Core.Bool.{true, false, not, true≢false}
 use mathlib.Core.List.{List}
-use Prim.Native.Nat.{ℕ, zero, suc, ◌+◌, ◌-◌, ◌<◌}
+use Prim.Native.Nat.{ℕ, zero, suc, ◌-◌, ◌<◌}
 use native.Mathlib.Omega.{arith}
 use lib.Dec.{eqb, leb}
 use lib.ListN.{length}
-use borrow.Author.Tests.{eq-eqb, ne_eqb, leb-true, leb-false, le-leb, ltb-true, ltb-false, not-false}
+use borrow.Author.Tests.{eq-eqb, leb-true, leb-false, le-leb, ltb-true, ltb-false, not-false}
 use Rattle.container.specs.Entries.{room_for}
 use Rattle.container.specs.Undo.{undone_in}
 use Rattle.semantics.specs.declared.Builder.{Builder}
@@ -14,25 +14,17 @@ use Rattle.semantics.specs.declared.Container.{Container}
 use Rattle.semantics.specs.declared.Counts.{Counts}
 use Rattle.semantics.specs.declared.Mark.{Mark}
 use Rattle.semantics.specs.declared.View.{View}
+use Rattle.std.specs.Prelude.{Ok}
 use Rattle.semantics.specs.Record.{Storage, set_mark, return_to, chained, container_at, is_open, mark_at, slot_of, storage_of, view_of}
 use Rattle.semantics.specs.Damage.{misplaced_inner, over_used, unchained}
 use Rattle.semantics.specs.Table.{number_of}
-use Rattle.semantics.specs.Step.{entries_returned, mark_to, new_mark, returned, with_marks, with_unique}
+use Rattle.semantics.specs.Step.{entries_returned, mark_to, returned, with_marks, with_unique}
 use Rattle.semantics.proofs.Demand1.{none_at}
 use Rattle.refusals.proofs.ViewLaws.{Within, neither, undamaged_unbroken, within}
 use Rattle.semantics.proofs.ViewLaws.{both, inner_at, mark_between}
-use Rattle.actions.specs.Actions.{Returns, SetsMark, counts_at, entries_at, reachable}
+use Rattle.actions.specs.Actions.{Returns, counts_at, entries_at, reachable}
 
 -- ---- a mark
-
-module _ {v : View} {l : Storage} {n : ℕ} {m : Mark} (q : n ≡ number_of v l set_mark) (w : m ≡ new_mark v) where
-  pub mark_refused : (n ≡ 0 → ⊥) → SetsMark v l (record { container = v.inner; mark = m; number = n })
-  mark_refused h = record { number = q; container = rw (ne_eqb (number_of v l set_mark) 0 (λ f. h (q ∙ f))) refl; mark = w }
-
-  pub mark_set : {k : Container} → n ≡ 0 → k ≡ with_marks v.inner (v.inner.marks + 1) → SetsMark v l (record { container = k; mark = m; number = 0 })
-  mark_set h e =
-      let z = sym q ∙ h in
-      record { number = sym z; container = rw (eq-eqb (number_of v l set_mark) 0 z) e; mark = w }
 
 -- one that is set is one of 16
 pub marks_few : (v : View) (l : Storage) {n : ℕ} → n ≡ number_of v l set_mark → n ≡ 0 → v.inner.marks < 16
@@ -49,21 +41,15 @@ entries_returned_lem v l p w e =
     let k = w.entries in
     rw (b.0, le-leb p.entries (room_for (length l.entries)) (omega arith), le-leb v.counts.undo (room_for (length l.undo)) w.undo)
 
-pub return_refused : {v : View} {l : Storage} {p : Mark} {j n : ℕ} → n ≡ number_of v l (return_to j) → (n ≡ 0 → ⊥)
-    → Returns v l p j (record { counts = v.counts; elements = v.elements; container = v.inner; number = n }) l
-return_refused {v} {l} {p} {j} q h =
-    let z = ne_eqb (number_of v l (return_to j)) 0 (λ f. h (q ∙ f)) in
-    record { number = q; counts = rw z; elements = rw z; container = rw z; storage = λ r. rw z }
-
-pub return_done : {v : View} {l : Storage} {p : Mark} {j n : ℕ} {c : Counts} {k : Container} {es : List ℕ} → n ≡ number_of v l (return_to j) → n ≡ 0
+pub return_done : {v : View} {l : Storage} {p : Mark} {j : ℕ} {c : Counts} {k : Container} {es : List ℕ} → 0 ≡ number_of v l (return_to j)
     → es ≡ entries_at v l p → c ≡ counts_at v.counts p → k ≡ with_marks (with_unique v.inner p.unique) j
-    → Returns v l p j (record { counts = c; elements = p.count; container = k; number = 0 }) (storage_of l.value l.text l.ends es l.undo)
+    → Returns v l p j (Ok (record { counts = c; elements = p.count; container = k })) (storage_of l.value l.text l.ends es l.undo)
 unfolding returned
-return_done {v} {l} {p} {j} q h e c k =
-    let z = sym q ∙ h in
+return_done {v} {l} {p} {j} q e c k =
+    let z = sym q in
     let z' = eq-eqb (number_of v l (return_to j)) 0 z in
     let w = within v l (undamaged_unbroken v l (misplaced_inner v l) (none_at v l (return_to j) z 1)) in
-    record { number = sym z; counts = rw z' c; elements = rw z'; container = rw z' k; storage = λ r. rw (z', e, entries_returned_lem v l p w (r z)) }
+    record { number = q; returned = λ r. rw (c, k); storage = λ r. rw (z', e, entries_returned_lem v l p w (r z)) }
 
 -- a mark that a return of number 0 goes to lies between its container's start and the present
 pub return_reachable : (b : Builder) (ms : List ℕ) (l : Storage) (j : ℕ) → number_of (view_of b ms) l (return_to j) ≡ 0

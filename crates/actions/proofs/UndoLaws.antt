@@ -1,6 +1,6 @@
 -- A roll back that is carried out.
-use mathlib.Core.Path.{◌≡◌, refl, sym, ◌∙◌}
-use mathlib.Core.Bool.{Bool, true, false, cond, not, ◌&&◌}
+use mathlib.Core.Path.{◌≡◌, refl, sym, ◌∙◌, ap}
+use mathlib.Core.Bool.{Bool, true, false, cond, not}
 use mathlib.Core.List.{List}
 use Prim.Native.Nat.{ℕ, ◌-◌, ◌≤◌}
 use native.Mathlib.Omega.{arith}
@@ -16,8 +16,9 @@ use Rattle.semantics.specs.Record.{Storage, roll_back, is_open, storage_of}
 use Rattle.semantics.specs.Damage.{damaged, misread}
 use Rattle.semantics.specs.Table.{number_of}
 use Rattle.semantics.specs.Step.{count_back, entries_back, rolled_back, undo_back, with_counts}
-use Rattle.refusals.specs.declared.Undone.{Undone}
-use Rattle.refusals.specs.Decide.{Undoes, place_back}
+use Rattle.std.specs.Prelude.{Option as Optional, None, Result, Ok, Err}
+use Rattle.semantics.specs.declared.refusal.Refusal.{Refusal}
+use Rattle.refusals.specs.Decide.{Backs, place_back}
 use Rattle.refusals.proofs.ViewLaws.{past}
 use Rattle.actions.specs.Actions.{Leaves, entries_undone, siblings_back}
 
@@ -34,25 +35,24 @@ undone_back : (v : View) (l : Storage) (p : ParentEntry) → entries_undone l.en
 undone_back v l New = refl
 undone_back v l (Replaced id offset) = refl
 
+place_told : Result (Optional ℕ) Refusal → Optional ℕ
+place_told (Ok p) = p
+place_told (Err e) = None
+
 -- what it leaves
-pub leaves_undone : {v : View} {l : Storage} {d : Undone} {count records siblings : ℕ} {cut : MetadataBuilder} {es : List ℕ} → Undoes (number_of v l roll_back) v l d → d.number ≡ 0
+pub leaves_undone : {v : View} {l : Storage} {place : Optional ℕ} {count records siblings : ℕ} {cut : MetadataBuilder} {es : List ℕ} → Backs (number_of v l roll_back) v l (Ok place)
     → count ≡ cond (ltb 1 v.counts.depth) (count_back v.parent.object v.inner.entries v.inner.parent) v.inner.entries
     → records ≡ cond (ltb 1 v.counts.depth) (undo_back v.inner v.parent) v.inner.undo
-    → es ≡ cond (ltb 1 v.counts.depth) (entries_undone l.entries d.place v.inner.parent) l.entries
+    → es ≡ entries_undone l.entries place v.inner.parent
     → cut ≡ from_parts v.inner.names v.inner.text → siblings ≡ siblings_back v.parent.object v.siblings v.inner.parent
-    → Leaves v l roll_back (record { counts = with_counts v.counts v.inner.value count records (v.counts.depth - 1) cut; elements = siblings; number = 0 }) (storage_of l.value l.text l.ends es l.undo)
-unfolding rolled_back
-leaves_undone {v} {l} {d} {es = es} u z p r q t s =
-    let e : number_of v l roll_back ≡ 0 = sym u.number ∙ z in
-    record { number = sym e; counts = rw (e, p, r, t); elements = rw (e, s); storage = rw (e, q) (go (ltb 1 v.counts.depth) (rw e at u.place)) }
+    → Leaves v l roll_back (Ok (record { counts = with_counts v.counts v.inner.value count records (v.counts.depth - 1) cut; elements = siblings })) (storage_of l.value l.text l.ends es l.undo)
+unfolding rolled_back place_told
+leaves_undone {v} {l} {place} {es = es} u p r q t s =
+    let e : number_of v l roll_back ≡ 0 = sym u.number in
+    record { number = u.number; moved = λ z. rw (p, r, t, s); storage = rw (e, q) (go (ltb 1 v.counts.depth) (ap place_told (u.place e))) }
   where
-    go : (b : Bool) → d.place ≡ cond (true && b) (place_back v l v.inner.parent) 0
-        → storage_of l.value l.text l.ends (cond b (entries_undone l.entries d.place v.inner.parent) l.entries) l.undo
+    go : (b : Bool) → place ≡ cond b (place_back v l v.inner.parent) None
+        → storage_of l.value l.text l.ends (entries_undone l.entries place v.inner.parent) l.undo
         ≡ storage_of l.value l.text l.ends (cond b (entries_back v l v.inner.parent) l.entries) l.undo
     go true h = rw (h, undone_back v l v.inner.parent)
-    go false h = refl
-
--- the undo records that are left, below the top level without the child's own
-pub records_back : (below own : Bool) (n : ℕ) → cond (below && own) (n - 1) n ≡ cond below (cond own (n - 1) n) n
-records_back true own n = refl
-records_back false own n = refl
+    go false h = rw h

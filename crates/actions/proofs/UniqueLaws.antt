@@ -1,29 +1,16 @@
--- The uniqueness mark, refused and set.
-use mathlib.Core.Path.{◌≡◌, refl, sym, ◌∙◌}
+-- The uniqueness mark of an innermost container.
+use mathlib.Core.Path.{◌≡◌}
 use mathlib.Core.List.{List}
 use mathlib.Core.Bool.{Bool, false, ◌&&◌, ◌||◌, and-eq-true_iff}
 use Prim.Native.Nat.{ℕ, ◌-◌, ◌≤◌, ◌<◌}
 use lib.Dec.{leb, ltb}
-use borrow.Author.Tests.{eq-eqb, ne_eqb, leb-true, ltb-true, not-false}
+use borrow.Author.Tests.{leb-true, ltb-true, not-false}
 use Rattle.semantics.specs.declared.Builder.{Builder}
-use Rattle.semantics.specs.declared.Container.{Container}
-use Rattle.semantics.specs.declared.View.{View}
 use Rattle.semantics.specs.Record.{Storage, uniqueness, view_of, innermost, in_object, rising, chained, marks_hold}
 use Rattle.semantics.specs.Damage.{over_used, grown, unchained, bad_floor}
 use Rattle.semantics.specs.Table.{number_of}
-use Rattle.semantics.specs.Step.{with_unique}
 use Rattle.semantics.proofs.Demand1.{none_at}
 use Rattle.refusals.proofs.ViewLaws.{neither}
-use Rattle.actions.specs.Actions.{SetsUnique}
-
-module _ {v : View} {l : Storage} (u : Bool) {n : ℕ} (q : (u : Bool) → n ≡ number_of v l (uniqueness u)) where
-  pub unique_refused : (n ≡ 0 → ⊥) → SetsUnique v l u (record { container = v.inner; number = n })
-  unique_refused h = record { number = q u; container = rw (ne_eqb (number_of v l (uniqueness u)) 0 (λ f. h (q u ∙ f))) refl }
-
-  pub unique_set : {k : Container} → n ≡ 0 → k ≡ with_unique v.inner u → SetsUnique v l u (record { container = k; number = 0 })
-  unique_set h e =
-      let z = sym (q u) ∙ h in
-      record { number = sym z; container = rw (eq-eqb (number_of v l (uniqueness u)) 0 z) e }
 
 -- carried out, the innermost is one of the 64
 pub unique_open : (b : Builder) (ms : List ℕ) (l : Storage) (u : Bool) → number_of (view_of b ms) l (uniqueness u) ≡ 0 → (0 < b.counts.depth) × (b.counts.depth ≤ 64)

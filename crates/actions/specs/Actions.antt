@@ -1,12 +1,13 @@
 -- What a call over pieces of the record gives back and leaves behind, by the definitions of `semantics`; and, for the code, the parts
 -- that calls share.
-use Rattle.std.specs.Prelude.{◌≡◌, Bool, true, cond, not, ◌&&◌, List, ℕ, ◌+◌, ◌-◌, ◌*◌, eqb, leb, ltb, length, set}
-use Rattle.std.proofs.Math.Option.{Option}
+use Rattle.std.specs.Prelude.{◌≡◌, Bool, true, false, cond, not, ◌&&◌, List, [], ℕ, ◌+◌, ◌-◌, ◌*◌, eqb, leb, ltb, length, set, is_some, Option as Optional, Some, None, Result, Ok, Err, IfOk}
+use Rattle.std.proofs.Math.Option.{Option, none, some}
 use Rattle.encoding.specs.Rows.{Row, first}
 use Rattle.encoding.specs.Slices.{write}
 use Rattle.value.specs.declared.variant.Variant.{Variant}
-use Rattle.value.specs.declared.variant.Variant.TheVariants as variant
-use Rattle.value.specs.Scalar.{stored_variant}
+use Rattle.value.specs.declared.variant.VariantBytes.{VariantBytes}
+use Rattle.value.specs.Decimal.{out_of_range}
+use Rattle.value.specs.Scalar.{ill_formed, scalar_bytes, stored_bytes, stored_variant}
 use Rattle.metadata.specs.declared.MetadataBuilder.{MetadataBuilder}
 use Rattle.metadata.specs.Names.{Name, field_names, text_size}
 use Rattle.metadata.specs.Calls.{added, from_parts, has_room}
@@ -21,17 +22,20 @@ use Rattle.semantics.specs.declared.Container.{Container}
 use Rattle.semantics.specs.declared.ParentEntry.{ParentEntry}
 use Rattle.semantics.specs.declared.ParentEntry.TheVariants.{New, Replaced}
 use Rattle.semantics.specs.declared.View.{View}
+use Rattle.semantics.specs.declared.refusal.Refusal.{Refusal}
+use Rattle.semantics.specs.declared.refusal.Refusal.TheVariants as refusal
+use Rattle.semantics.specs.Refusal.{number_told}
 use Rattle.semantics.specs.Record.{Storage, Scalars, Call, register, append, open_in, close, roll_back, uniqueness, set_mark, return_to, finish, no_mark, scalar_of, in_list, unique_now}
 use Rattle.semantics.specs.Table.{header, number_of, scalar_rows}
 use Rattle.semantics.specs.Step.{carried_out, count_with, dictionary_of, dictionary_with, ends_with, entries_closed, entries_with, finished, new_container, new_mark, parent_with, text_with, undo_count_with, undo_with, with_counts, with_marks, with_unique}
 use Rattle.actions.specs.declared.Moved.{Moved}
-use Rattle.actions.specs.declared.own.Own.{Own}
 use Rattle.actions.specs.declared.Opened.{Opened}
-use Rattle.actions.specs.declared.UniqueSet.{UniqueSet}
 use Rattle.actions.specs.declared.Marked.{Marked}
 use Rattle.actions.specs.declared.Returned.{Returned}
 use Rattle.actions.specs.declared.Ended.{Ended}
 use Rattle.actions.specs.declared.enter.Entered.{Entered}
+use Rattle.actions.specs.declared.enter.Put.{Put}
+use Rattle.actions.specs.declared.enter.Put.TheVariants.{Nothing, Fresh, Live}
 
 -- one more where it is so
 abbrev pub one_more : Bool → ℕ → ℕ
@@ -59,103 +63,164 @@ elements_left v p (finish out) = v.elements
 abbrev pub elements_put : List ℕ → ℕ → ℕ → List ℕ
 elements_put ns d n = cond (ltb 0 d) (set ns (d - 1) n) ns
 
--- the number, the counts, the elements and the storage of a call that goes to no mark
-pub record Leaves (v : View) (l : Storage) (c : Call) (r : Moved) (after : Storage) : Type 0 where
-  pub number : r.number ≡ number_of v l c
-  pub counts : r.counts ≡ cond (eqb (number_of v l c) 0) (carried_out v l no_mark c).counts v.counts
-  pub elements : r.elements ≡ cond (eqb (number_of v l c) 0) (elements_left v no_mark c) v.elements
+-- what a call that goes to no mark leaves, but for the storage
+abbrev pub moved_to : View → Storage → Call → Moved
+moved_to v l c = record { counts = (carried_out v l no_mark c).counts; elements = elements_left v no_mark c }
+
+-- its number, what it leaves where that is 0, and the storage
+pub record Leaves (v : View) (l : Storage) (c : Call) (r : Result Moved Refusal) (after : Storage) : Type 0 where
+  pub number : number_told r ≡ number_of v l c
+  pub moved : number_of v l c ≡ 0 → r ≡ Ok (moved_to v l c)
   pub storage : after ≡ cond (eqb (number_of v l c) 0) (carried_out v l no_mark c).storage l
 
 -- of an open also the container; the elements are of the one that was innermost
-pub record Opens (v : View) (l : Storage) (nm : Option Name) (object : Bool) (r : Opened) (after : Storage) : Type 0 where
-  pub number : r.number ≡ number_of v l (open_in nm object)
-  pub counts : r.counts ≡ cond (eqb (number_of v l (open_in nm object)) 0) (carried_out v l no_mark (open_in nm object)).counts v.counts
-  pub elements : r.elements ≡ cond (eqb (number_of v l (open_in nm object)) 0) (one_more (in_list v) v.elements) v.elements
-  pub container : r.container ≡ cond (eqb (number_of v l (open_in nm object)) 0) (new_container v l nm object) v.inner
+abbrev pub opened_to : View → Storage → Option Name → Bool → Opened
+opened_to v l nm object =
+    record { counts = (carried_out v l no_mark (open_in nm object)).counts; elements = one_more (in_list v) v.elements; container = new_container v l nm object }
+
+pub record Opens (v : View) (l : Storage) (nm : Option Name) (object : Bool) (r : Result Opened Refusal) (after : Storage) : Type 0 where
+  pub number : number_told r ≡ number_of v l (open_in nm object)
+  pub opened : number_of v l (open_in nm object) ≡ 0 → r ≡ Ok (opened_to v l nm object)
   pub storage : after ≡ cond (eqb (number_of v l (open_in nm object)) 0) (carried_out v l no_mark (open_in nm object)).storage l
 
 -- of the uniqueness mark the innermost container
-pub record SetsUnique (v : View) (l : Storage) (u : Bool) (r : UniqueSet) : Type 0 where
-  pub number : r.number ≡ number_of v l (uniqueness u)
-  pub container : r.container ≡ cond (eqb (number_of v l (uniqueness u)) 0) (with_unique v.inner u) v.inner
+pub record SetsUnique (v : View) (l : Storage) (u : Bool) (r : Result Container Refusal) : Type 0 where
+  pub number : number_told r ≡ number_of v l (uniqueness u)
+  pub container : number_of v l (uniqueness u) ≡ 0 → r ≡ Ok (with_unique v.inner u)
 
 -- of a mark that is set the innermost container with it, and what it holds
-pub record SetsMark (v : View) (l : Storage) (r : Marked) : Type 0 where
-  pub number : r.number ≡ number_of v l set_mark
-  pub container : r.container ≡ cond (eqb (number_of v l set_mark) 0) (with_marks v.inner (v.inner.marks + 1)) v.inner
-  pub mark : r.mark ≡ new_mark v
+abbrev pub marked_to : View → Marked
+marked_to v = record { container = with_marks v.inner (v.inner.marks + 1); mark = new_mark v }
+
+pub record SetsMark (v : View) (l : Storage) (r : Result Marked Refusal) : Type 0 where
+  pub number : number_told r ≡ number_of v l set_mark
+  pub marked : number_of v l set_mark ≡ 0 → r ≡ Ok (marked_to v)
 
 -- a mark's entries lie between the innermost's starting mark and those used
 abbrev pub reachable : View → Mark → Bool
 reachable v p = leb v.inner.entries p.entries && leb p.entries v.counts.entries
 
 -- of a return to mark j, which is p, also the container; a mark that is set in a builder of number 0 is reachable
-pub record Returns (v : View) (l : Storage) (p : Mark) (j : ℕ) (r : Returned) (after : Storage) : Type 0 where
-  pub number : r.number ≡ number_of v l (return_to j)
-  pub counts : r.counts ≡ cond (eqb (number_of v l (return_to j)) 0) (carried_out v l p (return_to j)).counts v.counts
-  pub elements : r.elements ≡ cond (eqb (number_of v l (return_to j)) 0) (elements_left v p (return_to j)) v.elements
-  pub container : r.container ≡ cond (eqb (number_of v l (return_to j)) 0) (with_marks (with_unique v.inner p.unique) j) v.inner
+abbrev pub returned_to : View → Storage → Mark → ℕ → Returned
+returned_to v l p j =
+    record { counts = (carried_out v l p (return_to j)).counts; elements = elements_left v p (return_to j); container = with_marks (with_unique v.inner p.unique) j }
+
+pub record Returns (v : View) (l : Storage) (p : Mark) (j : ℕ) (r : Result Returned Refusal) (after : Storage) : Type 0 where
+  pub number : number_told r ≡ number_of v l (return_to j)
+  pub returned : number_of v l (return_to j) ≡ 0 → r ≡ Ok (returned_to v l p j)
   pub storage : (number_of v l (return_to j) ≡ 0 → reachable v p ≡ true) → after ≡ cond (eqb (number_of v l (return_to j)) 0) (carried_out v l p (return_to j)).storage l
 
 -- of a finish also the bytes written, and the output
-pub record Ends (v : View) (l : Storage) (out : List ℕ) (r : Ended) (after : List ℕ) : Type 0 where
-  pub number : r.number ≡ number_of v l (finish out)
-  pub counts : r.counts ≡ cond (eqb (number_of v l (finish out)) 0) (finished v.counts) v.counts
-  pub written : r.written ≡ cond (eqb (number_of v l (finish out)) 0) (length (dictionary_of v l)) 0
+pub record Ends (v : View) (l : Storage) (out : List ℕ) (r : Result Ended Refusal) (after : List ℕ) : Type 0 where
+  pub number : number_told r ≡ number_of v l (finish out)
+  pub ended : number_of v l (finish out) ≡ 0 → r ≡ Ok (record { counts = finished v.counts; written = length (dictionary_of v l) })
   pub output : after ≡ cond (eqb (number_of v l (finish out)) 0) (write 0 (dictionary_of v l) out) out
 
 -- ---- a name added where it is new
-abbrev pub adds : Bool → MetadataBuilder → List ℕ → List ℕ → Name → Bool
-adds new m text ends name = new && has_room m text ends name
+abbrev pub given : Option Name → Name
+given none = []
+given (some n) = n
 
-pub record Registers (new : Bool) (m : MetadataBuilder) (text ends : List ℕ) (name : Name) (r : MetadataBuilder) (textAfter endsAfter : List ℕ) : Type 0 where
-  pub metadata : r ≡ cond (adds new m text ends name) (added m name) m
-  pub text_left : textAfter ≡ cond (adds new m text ends name) (write (text_size m) name text) text
-  pub ends_left : endsAfter ≡ cond (adds new m text ends name) (set ends (field_names m) (text_size m + length name)) ends
+abbrev pub adds : Bool → MetadataBuilder → List ℕ → List ℕ → Option Name → Bool
+adds new m text ends none = false
+adds new m text ends (some n) = new && has_room m text ends n
 
--- ---- the entry of a value, as it is put: in the place of a live name's, or as a fresh one
+pub record Registers (new : Bool) (m : MetadataBuilder) (text ends : List ℕ) (nm : Option Name) (r : MetadataBuilder) (textAfter endsAfter : List ℕ) : Type 0 where
+  pub metadata : r ≡ cond (adds new m text ends nm) (added m (given nm)) m
+  pub text_left : textAfter ≡ cond (adds new m text ends nm) (write (text_size m) (given nm) text) text
+  pub ends_left : endsAfter ≡ cond (adds new m text ends nm) (set ends (field_names m) (text_size m + length (given nm))) ends
+
+-- ---- the entry of a value: in the place of a live name's, or in an object the next one
+abbrev pub put_by : Bool → Optional ℕ → Bool → ℕ → ℕ → Put
+put_by object (Some place) marked entries undo = Live place (cond marked (Some undo) None)
+put_by object None marked entries undo = cond object (Fresh entries) Nothing
+
+abbrev pub fresh_put : Put → Bool
+fresh_put Nothing = false
+fresh_put (Fresh place) = true
+fresh_put (Live place r) = false
+
+abbrev pub recorded_put : Put → Bool
+recorded_put Nothing = false
+recorded_put (Fresh place) = false
+recorded_put (Live place r) = is_some r
+
+-- as it is put
+abbrev pub put_entries : Put → ℕ → ℕ → List ℕ → List ℕ
+put_entries Nothing id offset es = es
+put_entries (Fresh place) id offset es = cond (ltb place (room_for (length es))) (set_entry es place (record { id = id; offset = offset })) es
+put_entries (Live place r) id offset es = set es (2 * place + 1) offset
+
 abbrev pub entries_put : Entered → List ℕ → List ℕ
-entries_put e es =
-    cond e.live (set es (2 * e.place + 1) e.offset)
-    (cond e.fresh (cond (ltb e.place (room_for (length es))) (set_entry es e.place (record { id = e.id; offset = e.offset })) es) es)
+entries_put e es = put_entries e.put e.id e.offset es
+
+abbrev pub put_parent : Put → ℕ → List ℕ → ParentEntry
+put_parent Nothing id es = New
+put_parent (Fresh place) id es = New
+put_parent (Live place r) id es = Replaced id (entry_at es place).offset
 
 abbrev pub parent_put : Entered → List ℕ → ParentEntry
-parent_put e es = cond e.live (Replaced e.id (entry_at es e.place).offset) New
+parent_put e es = put_parent e.put e.id es
 
 -- the undo record of a replaced entry, as it is put
-abbrev pub record_put : Entered → ℕ → List ℕ → List ℕ
-record_put e former us =
-    cond e.recorded (cond (ltb e.slot (room_for (length us))) (set_entry us e.slot (record { id = e.id; offset = former })) us) us
+abbrev pub record_put : Optional ℕ → ℕ → ℕ → List ℕ → List ℕ
+record_put None id former us = us
+record_put (Some slot) id former us = cond (ltb slot (room_for (length us))) (set_entry us slot (record { id = id; offset = former })) us
+
+abbrev pub put_undo : Put → ℕ → List ℕ → List ℕ → List ℕ
+put_undo Nothing id es us = us
+put_undo (Fresh place) id es us = us
+put_undo (Live place r) id es us = record_put r id (entry_at es place).offset us
 
 abbrev pub undo_put : Entered → List ℕ → List ℕ → List ℕ
-undo_put e es us = cond e.live (record_put e (entry_at es e.place).offset us) us
+undo_put e es us = put_undo e.put e.id es us
 
 -- the counts with a name, an entry where a value is entered, a value of that size and, of an open, a container more
 abbrev pub counts_with : View → Storage → Option Name → Bool → Bool → ℕ → Counts
 counts_with v l nm into opens size =
     with_counts v.counts (v.counts.value + size) (cond into (count_with v l nm) v.counts.entries) (cond into (undo_count_with v l nm) v.counts.undo) (one_more opens v.counts.depth) (dictionary_with v l nm)
 
--- what a register, an append or an open of number n leaves, up to the entry and the value's bytes; a register, of which `into` is false,
+-- what a register, an append or an open leaves, up to the entry and the value's bytes; a register, of which `into` is false,
 -- puts no entry
-pub record EntersBy (v : View) (l : Storage) (nm : Option Name) (into opens : Bool) (size n : ℕ) (r : Entered) (text ends : List ℕ) : Type 0 where
-  pub number : r.number ≡ n
-  pub counts : r.counts ≡ cond (eqb n 0) (counts_with v l nm into opens size) v.counts
-  pub elements : r.elements ≡ cond (eqb n 0) (one_more (into && in_list v) v.elements) v.elements
-  pub unique : r.unique ≡ unique_now v
+pub record EnteredBy (v : View) (l : Storage) (nm : Option Name) (into opens : Bool) (size : ℕ) (e : Entered) : Type 0 where
+  pub counts : e.counts ≡ counts_with v l nm into opens size
+  pub elements : e.elements ≡ one_more (into && in_list v) v.elements
+  pub unique : e.unique ≡ unique_now v
+  pub entries : entries_put e l.entries ≡ cond into (entries_with v l nm) l.entries
+  pub undo : undo_put e l.entries l.undo ≡ cond into (undo_with v l nm) l.undo
+  pub parent : parent_put e l.entries ≡ cond into (parent_with v l nm) New
+
+-- of number n
+pub record EntersBy (v : View) (l : Storage) (nm : Option Name) (into opens : Bool) (size n : ℕ) (r : Result Entered Refusal) (text ends : List ℕ) : Type 0 where
+  pub number : number_told r ≡ n
+  pub entered : IfOk r (EnteredBy v l nm into opens size)
   pub text_left : text ≡ cond (eqb n 0) (text_with v l nm) l.text
   pub ends_left : ends ≡ cond (eqb n 0) (ends_with v l nm) l.ends
-  pub entries : n ≡ 0 → entries_put r l.entries ≡ cond into (entries_with v l nm) l.entries
-  pub undo : n ≡ 0 → undo_put r l.entries l.undo ≡ cond into (undo_with v l nm) l.undo
-  pub parent : n ≡ 0 → parent_put r l.entries ≡ cond into (parent_with v l nm) New
 
--- what is stored for a scalar with these rows of its own, where no test of theirs holds; else null, which nothing stores
-abbrev pub own_of : List Row → Variant → Own
-own_of rows x = record { variant = cond (eqb (first rows) 0) x variant.Null; number = first rows }
+abbrev pub moved_by : Entered → Moved
+moved_by e = record { counts = e.counts; elements = e.elements }
 
--- a scalar with this number of its own, which is stored as x where that is 0
-pub record StoredAs (s : Scalars) (x : Variant) (own : ℕ) : Type 0 where
-  pub number : own ≡ first (scalar_rows s)
-  pub scalar : own ≡ 0 → scalar_of s ≡ stored_variant x
+-- what is stored for a scalar with these rows of its own, where no test of theirs holds
+pub record OwnBy (rows : List Row) (x : Variant) (r : Result Variant Refusal) : Type 0 where
+  pub number : number_told r ≡ first rows
+  pub variant : first rows ≡ 0 → r ≡ Ok x
+
+-- a scalar that is stored as this one, or has this refusal of its own
+pub record StoredAs (s : Scalars) (r : Result Variant Refusal) : Type 0 where
+  pub number : number_told r ≡ first (scalar_rows s)
+  pub scalar : (x : Variant) → r ≡ Ok x → scalar_of s ≡ stored_variant x
+
+-- the bytes that it takes
+abbrev pub size_by : Result Variant Refusal → Result ℕ Refusal
+size_by (Ok x) = Ok (length (scalar_bytes (stored_variant x)))
+size_by (Err r) = Err r
+
+-- of a scalar of fixed size, and of text or binary, with the rows 7 and 8
+abbrev pub value_by : Variant → Result Variant Refusal
+value_by x = cond (out_of_range x) (Err refusal.OutOfRange) (Ok x)
+
+abbrev pub bytes_by : VariantBytes → List ℕ → Result ℕ Refusal
+bytes_by k bs = cond (ill_formed k bs) (Err refusal.IllFormed) (Ok (length (scalar_bytes (stored_bytes k bs))))
 
 -- the container that opens, of the counts before and what was entered
 abbrev pub child_of : Counts → Entered → ParentEntry → Bool → Container
@@ -179,9 +244,10 @@ pub record Fronts (v : View) (l : Storage) (r : Closed) (value entries : List �
   pub entries_left : entries ≡ cond (eqb (closed_number r) 0) (entries_closed v l) l.entries
 
 -- ---- a parent's entry undone: the former offset, at its place
-abbrev pub entries_undone : List ℕ → ℕ → ParentEntry → List ℕ
-entries_undone es place New = es
-entries_undone es place (Replaced id offset) = set es (2 * place + 1) offset
+abbrev pub entries_undone : List ℕ → Optional ℕ → ParentEntry → List ℕ
+entries_undone es None p = es
+entries_undone es (Some place) New = es
+entries_undone es (Some place) (Replaced id offset) = set es (2 * place + 1) offset
 
 -- ---- a return: the counts of the mark, and its entries, as the code has them for any mark
 abbrev pub counts_at : Counts → Mark → Counts

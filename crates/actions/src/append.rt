@@ -2,17 +2,16 @@
 // Derived from `try_append_value` and `try_insert` of parquet-variant 60.1.0, src/builder.rs, src/builder/list.rs and
 // src/builder/object.rs (see NOTICE). Changed: written in Rattle, over counts and lent slices; all rows are decided first.
 ghost use Rattle.semantics.specs.Record.{Scalars, append as append_of, bytes as bytes_of, civil, fixed, packed, uuid as uuid_of, storage_of};
-ghost use Rattle.refusals.specs.Decide.{name_of};
+ghost use Rattle.refusals.specs.Decide.{name_in};
 ghost use Rattle.actions.specs.Actions.{Leaves, StoredAs};
 
 use crate::Moved;
 use crate::enter::{enter_over, note};
-use crate::own::{civil_own, packed_own};
+use crate::own::{bytes_own, civil_own, packed_own, stored_size, value_own};
 use calendar::civil::Civil;
-use refusals::row;
-use semantics::View;
-use value::scalar::{bytes_size, variant_size, write_bytes, write_uuid, write_variant};
-use value::variant::{Variant, VariantBytes, ill_formed, out_of_range};
+use semantics::{Refusal, View};
+use value::scalar::{write_bytes, write_uuid, write_variant};
+use value::variant::{Variant, VariantBytes};
 
 pub fn append_value_over(
     v: View,
@@ -21,16 +20,14 @@ pub fn append_value_over(
     ends: &mut [usize],
     entries: &mut [usize],
     undo: &mut [usize],
-    named: bool,
-    name: &[u8],
+    name: Option<&[u8]>,
     x: Variant,
-) -> Moved
+) -> Result<Moved, Refusal>
     ensures { Leaves v (storage_of value.old text.old ends.old entries.old undo.old)
-        (append_of (name_of named name.now) (fixed x)) result
+        (append_of (name_in name.entry) (fixed x)) result
         (storage_of value.new text.new ends.new entries.new undo.new) }
 {
-    let n = row(out_of_range(x), 7, 0);
-    append_own(v, value, text, ends, entries, undo, named, name, x, n)
+    append_own(v, value, text, ends, entries, undo, name, value_own(x))
 }
 
 // A date, or a date and a time of day.
@@ -41,19 +38,14 @@ pub fn append_civil_over(
     ends: &mut [usize],
     entries: &mut [usize],
     undo: &mut [usize],
-    named: bool,
-    name: &[u8],
+    name: Option<&[u8]>,
     x: Civil,
-) -> Moved
+) -> Result<Moved, Refusal>
     ensures { Leaves v (storage_of value.old text.old ends.old entries.old undo.old)
-        (append_of (name_of named name.now) (civil x)) result
+        (append_of (name_in name.entry) (civil x)) result
         (storage_of value.new text.new ends.new entries.new undo.new) }
 {
-    let o = civil_own(x);
-    let y = o.variant;
-    append_own(
-        v, value, text, ends, entries, undo, named, name, y, o.number,
-    )
+    append_own(v, value, text, ends, entries, undo, name, civil_own(x))
 }
 
 // Packed decimal, with a scale.
@@ -64,23 +56,19 @@ pub fn append_packed_over(
     ends: &mut [usize],
     entries: &mut [usize],
     undo: &mut [usize],
-    named: bool,
-    name: &[u8],
+    name: Option<&[u8]>,
     scale: u8,
     bytes: &[u8],
-) -> Moved
+) -> Result<Moved, Refusal>
     ensures { Leaves v (storage_of value.old text.old ends.old entries.old undo.old)
-        (append_of (name_of named name.now) (packed scale bytes.now)) result
+        (append_of (name_in name.entry) (packed scale bytes.now)) result
         (storage_of value.new text.new ends.new entries.new undo.new) }
 {
-    let o = packed_own(bytes, scale);
-    let x = o.variant;
-    append_own(
-        v, value, text, ends, entries, undo, named, name, x, o.number,
-    )
+    let own = packed_own(bytes, scale);
+    append_own(v, value, text, ends, entries, undo, name, own)
 }
 
-// A scalar that is stored as one of fixed size, with its own number, 0 where it has none.
+// A scalar that is stored as one of fixed size, or its own refusal.
 fn append_own(
     v: View,
     value: &mut [u8],
@@ -88,32 +76,19 @@ fn append_own(
     ends: &mut [usize],
     entries: &mut [usize],
     undo: &mut [usize],
-    named: bool,
-    name: &[u8],
-    x: Variant,
-    own: u8,
-) -> Moved
-    ensures { (s : Scalars) → StoredAs s x own
+    name: Option<&[u8]>,
+    own: Result<Variant, Refusal>,
+) -> Result<Moved, Refusal>
+    ensures { (s : Scalars) → StoredAs s own
         → Leaves v (storage_of value.old text.old ends.old entries.old undo.old)
-        (append_of (name_of named name.now) s) result
+        (append_of (name_in name.entry) s) result
         (storage_of value.new text.new ends.new entries.new undo.new) }
 {
-    let size = variant_size(x);
-    let e = enter_over(
-        v, value, text, ends, entries, undo, named, name, true, false, own, size,
-    );
-    let c = e.counts;
-    let r = Moved {
-        counts: c,
-        elements: e.elements,
-        number: e.number,
-    };
-    if e.number != 0 {
-        return r;
-    }
+    let size = stored_size(own);
+    let e = enter_over(v, value, text, ends, entries, undo, name, true, false, size)?;
     note(e, entries, undo);
-    let _ = write_variant(value, v.counts.value, x);
-    r
+    let _ = write_variant(value, v.counts.value, own.unwrap());
+    Ok(e.moved())
 }
 
 pub fn append_bytes_over(
@@ -123,32 +98,19 @@ pub fn append_bytes_over(
     ends: &mut [usize],
     entries: &mut [usize],
     undo: &mut [usize],
-    named: bool,
-    name: &[u8],
+    name: Option<&[u8]>,
     kind: VariantBytes,
     bytes: &[u8],
-) -> Moved
+) -> Result<Moved, Refusal>
     ensures { Leaves v (storage_of value.old text.old ends.old entries.old undo.old)
-        (append_of (name_of named name.now) (bytes_of kind bytes.now)) result
+        (append_of (name_in name.entry) (bytes_of kind bytes.now)) result
         (storage_of value.new text.new ends.new entries.new undo.new) }
 {
-    let size = bytes_size(kind, bytes);
-    let n = row(ill_formed(kind, bytes), 8, 0);
-    let e = enter_over(
-        v, value, text, ends, entries, undo, named, name, true, false, n, size,
-    );
-    let c = e.counts;
-    let r = Moved {
-        counts: c,
-        elements: e.elements,
-        number: e.number,
-    };
-    if e.number != 0 {
-        return r;
-    }
+    let size = bytes_own(kind, bytes);
+    let e = enter_over(v, value, text, ends, entries, undo, name, true, false, size)?;
     note(e, entries, undo);
     let _ = write_bytes(value, v.counts.value, kind, bytes);
-    r
+    Ok(e.moved())
 }
 
 pub fn append_uuid_over(
@@ -158,27 +120,26 @@ pub fn append_uuid_over(
     ends: &mut [usize],
     entries: &mut [usize],
     undo: &mut [usize],
-    named: bool,
-    name: &[u8],
+    name: Option<&[u8]>,
     uuid: [u8; 16],
-) -> Moved
+) -> Result<Moved, Refusal>
     ensures { Leaves v (storage_of value.old text.old ends.old entries.old undo.old)
-        (append_of (name_of named name.now) (uuid_of uuid)) result
+        (append_of (name_in name.entry) (uuid_of uuid)) result
         (storage_of value.new text.new ends.new entries.new undo.new) }
 {
     let e = enter_over(
-        v, value, text, ends, entries, undo, named, name, true, false, 0, 17,
-    );
-    let c = e.counts;
-    let r = Moved {
-        counts: c,
-        elements: e.elements,
-        number: e.number,
-    };
-    if e.number != 0 {
-        return r;
-    }
+        v,
+        value,
+        text,
+        ends,
+        entries,
+        undo,
+        name,
+        true,
+        false,
+        Ok(17),
+    )?;
     note(e, entries, undo);
     let _ = write_uuid(value, v.counts.value, uuid);
-    r
+    Ok(e.moved())
 }

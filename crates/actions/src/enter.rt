@@ -1,36 +1,54 @@
 // A name given to a call, added where it is new, and the entry of the value that comes, or of a list the element.
 // Derived from `ParentState::list` and `ParentState::try_object` of parquet-variant 60.1.0, src/builder/list.rs and
 // src/builder/object.rs (see NOTICE). Changed: written in Rattle, entries are lent numbers.
-ghost use Rattle.std.specs.Prelude.{◌≡◌, cond, false, true, ◌+◌, ◌^◌, ◌<◌};
+ghost use Rattle.std.specs.Prelude.{◌≡◌, ◌&&◌, ◌<◌, ◌+◌, ◌^◌, ltb, true};
 ghost use Rattle.encoding.specs.Rows.{first};
+ghost use Rattle.semantics.specs.Record.{in_list, in_object, storage_of};
+ghost use Rattle.semantics.specs.Refusal.{number_told};
 ghost use Rattle.semantics.specs.Step.{with_counts};
-ghost use Rattle.semantics.specs.Record.{storage_of};
-ghost use Rattle.refusals.specs.Decide.{enter_rows, name_of};
-ghost use Rattle.actions.specs.Actions.{EntersBy, Registers, entries_put, one_more, parent_put, record_put, undo_put};
+ghost use Rattle.refusals.specs.Decide.{enter_rows, name_in, size_told};
+ghost use Rattle.actions.specs.Actions.{EntersBy, Registers, entries_put, fresh_put, moved_by, one_more, parent_put, put_by, record_put, recorded_put, undo_put};
 
+use crate::Moved;
 use container::{Entry, put_entry, replace_offset};
 use metadata::MetadataBuilder;
-use refusals::{enter_number, saturating_sub, unique_now};
-use semantics::{Counts, ParentEntry, View};
+use refusals::{Field, Seen};
+use semantics::{Counts, ParentEntry, Refusal, View};
 
-// What a register, an append or an open leaves, up to the entry and the value's bytes: the number; the counts; the innermost container's
-// elements; the entry to be put, in the place of a live name's or as a fresh one; whether the replaced one is recorded, and as which undo
-// record; and the uniqueness mark that a child inherits.
+// What becomes of the entry: none is put; a fresh one is, at the next place; or a live name's gets another offset, and the former one
+// stays in that undo record, if it takes one.
+#[derive(Clone, Copy)]
+pub enum Put {
+    Nothing,
+    Fresh(usize),
+    Live { place: usize, slot: Option<usize> },
+}
+
+// What a register, an append or an open leaves, up to the entry and the value's bytes: the counts; the innermost container's
+// elements; the entry, and where it is put; and the uniqueness mark that a child inherits.
 #[derive(Clone, Copy)]
 pub struct Entered {
     pub counts: Counts,
     pub elements: usize,
-    pub place: usize,
     pub id: usize,
     pub offset: usize,
-    pub live: bool,
-    pub fresh: bool,
-    pub recorded: bool,
-    pub slot: usize,
+    pub put: Put,
     pub unique: bool,
-    pub number: u8,
 }
 
+impl Entered {
+    pub(crate) fn moved(&self) -> Moved
+        ensures { result ≡ moved_by self.now }
+    {
+        Moved {
+            counts: self.counts,
+            elements: self.elements,
+        }
+    }
+}
+
+// `into` is false of a register, which enters nothing into a container; `opens` is true of an open; `size` is the scalar's bytes, or its
+// own refusal.
 pub fn enter_over(
     v: View,
     value: &[u8],
@@ -38,96 +56,103 @@ pub fn enter_over(
     ends: &mut [usize],
     entries: &[usize],
     undo: &[usize],
-    named: bool,
-    name: &[u8],
+    name: Option<&[u8]>,
     into: bool,
     opens: bool,
-    own: u8,
-    size: usize,
-) -> Entered
+    size: Result<usize, Refusal>,
+) -> Result<Entered, Refusal>
     ensures { EntersBy v (storage_of value.now text.old ends.old entries.now undo.now)
-        (name_of named name.now) into opens size
+        (name_in name.entry) into opens (size_told size)
         (first
         (enter_rows v (storage_of value.now text.old ends.old entries.now undo.now)
-        (name_of named name.now) into opens own size)) result text.new ends.new }
+        (name_in name.entry) into opens (number_told size) (size_told size))) result text.new ends.new }
 {
-    let d = enter_number(
-        v, value, text, ends, entries, undo, named, name, into, opens, own, size,
-    );
+    let s = Seen {
+        view: &v,
+        value,
+        text,
+        ends,
+        entries,
+        undo,
+    };
+    let f = s.may_enter(name, into, opens, size)?;
+    let size = size?;
+    let unique = s.unique_now();
     let c = v.counts;
-    let u = unique_now(v);
-    if d.number != 0 {
-        return unentered(c, v.elements, u, d.number);
-    }
-    let f = d.field;
-    let m = c.dictionary;
-    let next = with_name(m, text, ends, f.new, name);
-    let at = saturating_sub(c.value, v.inner.value);
-    let open = 0 < c.depth;
-    let object = v.inner.object;
-    let fresh = (into & (open & object)) & !f.live;
-    let recorded = f.live & (0 < v.inner.marks);
-    let k = counts_with(c, size, fresh, recorded, opens, next);
-    Entered {
-        counts: k,
-        elements: one_more(into & (open & !object), v.elements),
-        place: place_of(f.live, f.place, c.entries),
+    let put = put_of(v, f, into);
+    let next = with_name(c.dictionary, text, ends, f.new, name);
+    Ok(Entered {
+        counts: counts_with(c, size, put, opens, next),
+        elements: one_more(takes_element(v, into), v.elements),
         id: f.id,
-        offset: at,
-        live: f.live,
-        fresh: fresh,
-        recorded: recorded,
-        slot: c.undo,
-        unique: u,
-        number: 0,
-    }
+        offset: c.value.saturating_sub(v.inner.value),
+        put,
+        unique,
+    })
 }
 
-// What a refused call leaves: all as it was.
-fn unentered(c: Counts, elements: usize, unique: bool, number: u8) -> Entered
-    ensures { result ≡ record { counts = c; elements = elements; place = 0; id = 0; offset = 0; live = false; fresh = false; recorded = false; slot = 0; unique = unique; number = number } }
+// Is it an element of a list?
+fn takes_element(v: View, into: bool) -> bool
+    ensures { result ≡ (into && in_list v) }
 {
-    Entered {
-        counts: c,
-        elements: elements,
-        place: 0,
-        id: 0,
-        offset: 0,
-        live: false,
-        fresh: false,
-        recorded: false,
-        slot: 0,
-        unique: unique,
-        number: number,
+    into && 0 < v.counts.depth && !v.inner.object
+}
+
+// A live name's entry, or in an object the next one.
+fn put_of(v: View, f: Field, into: bool) -> Put
+    ensures { result ≡ put_by (into && in_object v) f.place (ltb 0 v.inner.marks) v.counts.entries v.counts.undo }
+{
+    let c = v.counts;
+    if let Some(place) = f.place {
+        let slot = if 0 < v.inner.marks {
+            Some(c.undo)
+        } else {
+            None
+        };
+        return Put::Live { place, slot };
+    }
+    if into && 0 < c.depth && v.inner.object {
+        Put::Fresh(c.entries)
+    } else {
+        Put::Nothing
     }
 }
 
 // The counts with `size` value bytes more, an entry more where it is fresh, an undo record more where one is taken, a container more where
 // one opens, and that dictionary.
-fn counts_with(
-    c: Counts,
-    size: usize,
-    fresh: bool,
-    recorded: bool,
-    opens: bool,
-    m: MetadataBuilder,
-) -> Counts
+fn counts_with(c: Counts, size: usize, put: Put, opens: bool, m: MetadataBuilder) -> Counts
     requires size_bound { c.value + size < 2 ^ 63 }
-    requires entries_bound { fresh ≡ true → c.entries < 2 ^ 63 }
-    requires undo_bound { recorded ≡ true → c.undo < 2 ^ 63 }
+    requires entries_bound { fresh_put put ≡ true → c.entries < 2 ^ 63 }
+    requires undo_bound { recorded_put put ≡ true → c.undo < 2 ^ 63 }
     requires depth_bound { opens ≡ true → c.depth < 2 ^ 63 }
-    ensures { result ≡ with_counts c (c.value + size) (one_more fresh c.entries) (one_more recorded c.undo)
-        (one_more opens c.depth) m }
+    ensures { result ≡ with_counts c (c.value + size) (one_more (fresh_put put) c.entries)
+        (one_more (recorded_put put) c.undo) (one_more opens c.depth) m }
 {
     Counts {
         value: c.value + size,
-        entries: one_more(fresh, c.entries),
-        undo: one_more(recorded, c.undo),
+        entries: one_more(is_fresh(put), c.entries),
+        undo: one_more(is_recorded(put), c.undo),
         depth: one_more(opens, c.depth),
         dictionary: m,
-        unique: c.unique,
-        finished: c.finished,
-        floor: c.floor,
+        ..c
+    }
+}
+
+fn is_fresh(put: Put) -> bool
+    ensures { result ≡ fresh_put put }
+{
+    match put {
+        Put::Fresh(_) => true,
+        _ => false,
+    }
+}
+
+fn is_recorded(put: Put) -> bool
+    ensures { result ≡ recorded_put put }
+{
+    match put {
+        Put::Live { place: _, slot } => slot.is_some(),
+        _ => false,
     }
 }
 
@@ -135,20 +160,7 @@ fn one_more(more: bool, n: usize) -> usize
     requires { more ≡ true → n < 2 ^ 63 }
     ensures { result ≡ one_more more n }
 {
-    if more {
-        return n + 1;
-    }
-    n
-}
-
-// A live name's place, or the next free one.
-fn place_of(live: bool, place: usize, next: usize) -> usize
-    ensures { result ≡ cond live place next }
-{
-    if live {
-        return place;
-    }
-    next
+    if more { n + 1 } else { n }
 }
 
 // The second half of the Rust's `upsert_field_name`.
@@ -157,10 +169,13 @@ fn with_name(
     text: &mut [u8],
     ends: &mut [usize],
     new: bool,
-    name: &[u8],
+    name: Option<&[u8]>,
 ) -> MetadataBuilder
-    ensures { Registers new m text.old ends.old name.now result text.new ends.new }
+    ensures { Registers new m text.old ends.old (name_in name.entry) result text.new ends.new }
 {
+    let Some(name) = name else {
+        return m;
+    };
     let mut next = m;
     if new {
         let _ = next.add_field_name(text, ends, name);
@@ -173,34 +188,33 @@ pub fn note(e: Entered, entries: &mut [usize], undo: &mut [usize]) -> ParentEntr
     ensures { (result ≡ parent_put e entries.old) × (entries.new ≡ entries_put e entries.old)
         × (undo.new ≡ undo_put e entries.old undo.old) }
 {
-    if e.live {
-        let former = replace_offset(entries, e.place, e.offset);
-        keep(e, former, undo);
-        return ParentEntry::Replaced {
-            id: e.id,
-            offset: former,
-        };
+    match e.put {
+        Put::Nothing => ParentEntry::New,
+        Put::Fresh(place) => {
+            let entry = Entry {
+                id: e.id,
+                offset: e.offset,
+            };
+            let _ = put_entry(entries, place, entry);
+            ParentEntry::New
+        }
+        Put::Live { place, slot } => {
+            let former = replace_offset(entries, place, e.offset);
+            keep(slot, e.id, former, undo);
+            ParentEntry::Replaced {
+                id: e.id,
+                offset: former,
+            }
+        }
     }
-    if e.fresh {
-        let n = Entry {
-            id: e.id,
-            offset: e.offset,
-        };
-        let _ = put_entry(entries, e.place, n);
-        return ParentEntry::New;
-    }
-    ParentEntry::New
 }
 
 // The undo record of a replaced entry, where one is taken.
-fn keep(e: Entered, former: usize, undo: &mut [usize])
-    ensures { undo.new ≡ record_put e former undo.old }
+fn keep(slot: Option<usize>, id: usize, former: usize, undo: &mut [usize])
+    ensures { undo.new ≡ record_put slot id former undo.old }
 {
-    if e.recorded {
-        let n = Entry {
-            id: e.id,
-            offset: former,
-        };
-        let _ = put_entry(undo, e.slot, n);
+    if let Some(slot) = slot {
+        let entry = Entry { id, offset: former };
+        let _ = put_entry(undo, slot, entry);
     }
 }

@@ -10,8 +10,8 @@ use crate::Moved;
 use container::{CloseError, Frame, close_object};
 use list::close_list;
 use metadata::Names;
-use refusals::close_number;
-use semantics::{Counts, View};
+use refusals::Seen;
+use semantics::{Counts, Refusal, View};
 
 pub fn close_over(
     v: View,
@@ -20,49 +20,33 @@ pub fn close_over(
     ends: &[usize],
     entries: &mut [usize],
     undo: &[usize],
-) -> Moved
+) -> Result<Moved, Refusal>
     ensures { Leaves v (storage_of value.old text.now ends.now entries.old undo.now)
         close_of result (storage_of value.new text.now ends.now entries.new undo.now) }
 {
-    let d = close_number(v, value, text, ends, entries, undo);
-    let n = d.number;
+    let s = Seen {
+        view: &v,
+        value,
+        text,
+        ends,
+        entries,
+        undo,
+    };
+    let most = s.may_close()?;
     let c = v.counts;
-    if n != 0 {
-        return Moved {
-            counts: c,
-            elements: v.elements,
-            number: n,
-        };
-    }
-    let r = put_header(v, d.largest, value, text, ends, entries);
-    match r {
-        Ok(used) => {
-            let m = c.dictionary;
-            Moved {
-                counts: Counts {
-                    value: used,
-                    entries: v.inner.entries,
-                    undo: v.inner.undo,
-                    depth: c.depth - 1,
-                    dictionary: m,
-                    unique: c.unique,
-                    finished: c.finished,
-                    floor: c.floor,
-                },
-                elements: v.siblings,
-                number: 0,
-            }
-        }
-        Err(CloseError::Damaged) => Moved {
-            counts: c,
-            elements: v.elements,
-            number: 1,
-        },
-        Err(CloseError::NoRoom) => Moved {
-            counts: c,
-            elements: v.elements,
-            number: 14,
-        },
+    match put_header(v, most, value, text, ends, entries) {
+        Ok(used) => Ok(Moved {
+            counts: Counts {
+                value: used,
+                entries: v.inner.entries,
+                undo: v.inner.undo,
+                depth: c.depth - 1,
+                ..c
+            },
+            elements: v.siblings,
+        }),
+        Err(CloseError::Damaged) => Err(Refusal::Damaged),
+        Err(CloseError::NoRoom) => Err(Refusal::NoRoom),
     }
 }
 
@@ -93,13 +77,14 @@ fn put_header(
             text,
             ends,
         };
-        return close_object(f, most, names, value, entries);
+        close_object(f, most, names, value, entries)
+    } else {
+        close_list(
+            v.inner.value,
+            v.counts.value,
+            v.elements,
+            v.counts.floor,
+            value,
+        )
     }
-    close_list(
-        v.inner.value,
-        v.counts.value,
-        v.elements,
-        v.counts.floor,
-        value,
-    )
 }

@@ -16,7 +16,7 @@
 // under the License.
 
 // Each call over pieces of the builder's record: what it sees of the record (`View`), and the lent slices. A piece decides all
-// rows of its call first and then acts; it gives back the number, the counts and a list's elements, of an open, of the
+// rows of its call first and then acts; it gives back its refusal, or the counts and a list's elements, of an open, of the
 // uniqueness mark and of marks the container. The calls over the whole record are in the crate `builder`, those over state words in `ffi`.
 // Derived from `ParentState`, `ListState` and `ObjectState` of parquet-variant 60.1.0, src/builder.rs, src/builder/list.rs and
 // src/builder/object.rs (see NOTICE), as are the modules here. Changed: written in Rattle, over counts and lent slices.
@@ -36,60 +36,48 @@ pub use append::{
     append_bytes_over, append_civil_over, append_packed_over, append_uuid_over, append_value_over,
 };
 pub use dictionary::finish_over;
-pub use enter::{Entered, enter_over, note};
+pub use enter::{Entered, Put, enter_over, note};
 pub use header::close_over;
 pub use mark::{mark_over, return_over};
 pub use open::{child, open_over, register};
-pub use own::{Own, civil_own, packed_own};
+pub use own::{bytes_own, civil_own, packed_own, stored_size, value_own};
 use semantics::{Container, Counts, Mark};
 pub use undo::rollback_over;
 pub use unique::unique_over;
 
-// A call's number, 0 where it is carried out; the counts then, and the elements of the container that is innermost then.
+// What a call that is carried out leaves: the counts then, and the elements of the container that is innermost then.
 #[derive(Clone, Copy)]
 pub struct Moved {
     pub counts: Counts,
     pub elements: usize,
-    pub number: u8,
 }
 
-// Those of an open, with the elements of the container that was innermost, and the new container. That has no elements yet.
+// An open: the counts, the elements of the container that was innermost, and the new container. That has no elements yet.
 #[derive(Clone, Copy)]
 pub struct Opened {
     pub counts: Counts,
     pub elements: usize,
     pub container: Container,
-    pub number: u8,
 }
 
-// The number of a call that sets the uniqueness mark, and the innermost container then.
-#[derive(Clone, Copy)]
-pub struct UniqueSet {
-    pub container: Container,
-    pub number: u8,
-}
-
-// The number of a call that sets a mark, what the mark holds, and the innermost container then.
+// A mark that is set: what it holds, and the innermost container then.
 #[derive(Clone, Copy)]
 pub struct Marked {
     pub container: Container,
     pub mark: Mark,
-    pub number: u8,
 }
 
-// Those of a return: the number, the counts, and the innermost container with its elements.
+// A return: the counts, and the innermost container with its elements.
 #[derive(Clone, Copy)]
 pub struct Returned {
     pub counts: Counts,
     pub elements: usize,
     pub container: Container,
-    pub number: u8,
 }
 
-// Those of a finish, and the bytes written.
+// A finish: the counts, and the bytes written.
 #[derive(Clone, Copy)]
 pub struct Ended {
     pub counts: Counts,
-    pub number: u8,
     pub written: usize,
 }

@@ -2,56 +2,37 @@
 ghost use Rattle.std.specs.Prelude.{◌≡◌, List, ℕ};
 ghost use Rattle.semantics.specs.Record.{storage_of};
 ghost use Rattle.semantics.specs.Step.{new_mark, with_marks};
+ghost use Rattle.refusals.specs.Decide.{storage_in};
 ghost use Rattle.actions.specs.Actions.{Returns, SetsMark, counts_at, entries_at};
 
 use crate::unique::with_unique;
 use crate::{Marked, Returned};
 use container::undo_entries;
 use metadata::MetadataBuilder;
-use refusals::{mark_number, return_number};
-use semantics::{Container, Counts, Mark, View};
+use refusals::Seen;
+use semantics::{Container, Counts, Mark, Refusal, View};
 
 // One mark more: the mark, and the innermost container with it.
-pub fn mark_over(
-    v: View,
-    value: &[u8],
-    text: &[u8],
-    ends: &[usize],
-    entries: &[usize],
-    undo: &[usize],
-) -> Marked
-    ensures { SetsMark v
-        (storage_of value.now text.now ends.now entries.now undo.now) result }
+pub fn mark_over(s: &Seen) -> Result<Marked, Refusal>
+    ensures { SetsMark s.now.view.now (storage_in s.now) result }
 {
-    let n = mark_number(v, value, text, ends, entries, undo);
-    let k = v.inner;
-    let m = new_mark(v);
-    if n != 0 {
-        return Marked {
-            container: k,
-            mark: m,
-            number: n,
-        };
-    }
-    Marked {
-        container: with_marks(k, v.inner.marks + 1),
-        mark: m,
-        number: 0,
-    }
+    s.may_mark()?;
+    let k = s.view.inner;
+    Ok(Marked {
+        container: with_marks(k, k.marks + 1),
+        mark: new_mark(s.view),
+    })
 }
 
 // What a mark holds now.
-fn new_mark(v: View) -> Mark
-    ensures { result ≡ new_mark v }
+fn new_mark(v: &View) -> Mark
+    ensures { result ≡ new_mark v.now }
 {
     let c = v.counts;
-    let m = c.dictionary;
-    let names = m.num_field_names();
-    let text = m.metadata_size();
     Mark {
         value: c.value,
-        names: names,
-        text: text,
+        names: c.dictionary.num_field_names(),
+        text: c.dictionary.metadata_size(),
         entries: c.entries,
         undo: c.undo,
         count: v.elements,
@@ -59,21 +40,11 @@ fn new_mark(v: View) -> Mark
     }
 }
 
+#[tactic(auto, unfolding(semantics::specs::Step::with_marks))]
 fn with_marks(k: Container, marks: usize) -> Container
     ensures { result ≡ with_marks k marks }
 {
-    let p = k.parent;
-    Container {
-        value: k.value,
-        names: k.names,
-        text: k.text,
-        entries: k.entries,
-        undo: k.undo,
-        parent: p,
-        object: k.object,
-        unique: k.unique,
-        marks: marks,
-    }
+    Container { marks, ..k }
 }
 
 // The return to mark j, which is `p`: all as it was then, but for what is left free.
@@ -86,45 +57,38 @@ pub fn return_over(
     undo: &[usize],
     j: usize,
     p: Mark,
-) -> Returned
+) -> Result<Returned, Refusal>
     ensures { Returns v (storage_of value.now text.now ends.now entries.old undo.now)
         p j result (storage_of value.now text.now ends.now entries.new undo.now) }
 {
-    let n = return_number(v, value, text, ends, entries, undo, j);
-    let c = v.counts;
-    let k = v.inner;
-    if n != 0 {
-        return Returned {
-            counts: c,
-            elements: v.elements,
-            container: k,
-            number: n,
-        };
-    }
+    let s = Seen {
+        view: &v,
+        value,
+        text,
+        ends,
+        entries,
+        undo,
+    };
+    s.may_return(j)?;
     undo_to(v, p, entries, undo);
-    let u = with_unique(k, p.unique);
-    Returned {
-        counts: counts_at(c, p),
+    let u = with_unique(v.inner, p.unique);
+    Ok(Returned {
+        counts: counts_at(v.counts, p),
         elements: p.count,
         container: with_marks(u, j),
-        number: 0,
-    }
+    })
 }
 
 // The counts of the mark.
 fn counts_at(c: Counts, p: Mark) -> Counts
     ensures { result ≡ counts_at c p }
 {
-    let m = MetadataBuilder::from_parts(p.names, p.text);
     Counts {
         value: p.value,
         entries: p.entries,
         undo: p.undo,
-        depth: c.depth,
-        dictionary: m,
-        unique: c.unique,
-        finished: c.finished,
-        floor: c.floor,
+        dictionary: MetadataBuilder::from_parts(p.names, p.text),
+        ..c
     }
 }
 

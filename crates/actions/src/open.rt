@@ -4,12 +4,12 @@
 ghost use Rattle.std.specs.Prelude.{◌≡◌};
 ghost use Rattle.semantics.specs.Record.{storage_of};
 ghost use Rattle.semantics.specs.Record.{register as register_of};
-ghost use Rattle.refusals.specs.Decide.{name_of};
+ghost use Rattle.refusals.specs.Decide.{name_in};
 ghost use Rattle.actions.specs.Actions.{Leaves, Opens, child_of};
 
 use crate::enter::{Entered, enter_over, note};
 use crate::{Moved, Opened};
-use semantics::{Container, Counts, ParentEntry, View};
+use semantics::{Container, Counts, ParentEntry, Refusal, View};
 
 pub fn register(
     v: View,
@@ -19,19 +19,23 @@ pub fn register(
     entries: &[usize],
     undo: &[usize],
     name: &[u8],
-) -> Moved
+) -> Result<Moved, Refusal>
     ensures { Leaves v (storage_of value.now text.old ends.old entries.now undo.now)
         (register_of name.now) result (storage_of value.now text.new ends.new entries.now undo.now) }
 {
     let e = enter_over(
-        v, value, text, ends, entries, undo, true, name, false, false, 0, 0,
-    );
-    let c = e.counts;
-    Moved {
-        counts: c,
-        elements: e.elements,
-        number: e.number,
-    }
+        v,
+        value,
+        text,
+        ends,
+        entries,
+        undo,
+        Some(name),
+        false,
+        false,
+        Ok(0),
+    )?;
+    Ok(e.moved())
 }
 
 pub fn open_over(
@@ -41,52 +45,34 @@ pub fn open_over(
     ends: &mut [usize],
     entries: &mut [usize],
     undo: &mut [usize],
-    named: bool,
-    name: &[u8],
+    name: Option<&[u8]>,
     object: bool,
-) -> Opened
+) -> Result<Opened, Refusal>
     ensures { Opens v (storage_of value.now text.old ends.old entries.old undo.old)
-        (name_of named name.now) object result
+        (name_in name.entry) object result
         (storage_of value.now text.new ends.new entries.new undo.new) }
 {
-    let e = enter_over(
-        v, value, text, ends, entries, undo, named, name, true, true, 0, 0,
-    );
-    let c = e.counts;
-    if e.number != 0 {
-        let inner = v.inner;
-        return Opened {
-            counts: c,
-            elements: e.elements,
-            container: inner,
-            number: e.number,
-        };
-    }
+    let e = enter_over(v, value, text, ends, entries, undo, name, true, true, Ok(0))?;
     let p = note(e, entries, undo);
-    let before = v.counts;
-    Opened {
-        counts: c,
+    Ok(Opened {
+        counts: e.counts,
         elements: e.elements,
-        container: child(before, e, p, object),
-        number: 0,
-    }
+        container: child(v.counts, e, p, object),
+    })
 }
 
 // The container that opens: its starting marks are the counts before its own name, and of entries and undo records those after its own.
 pub fn child(before: Counts, e: Entered, parent: ParentEntry, object: bool) -> Container
     ensures { result ≡ child_of before e parent object }
 {
-    let m = before.dictionary;
-    let names = m.num_field_names();
-    let text = m.metadata_size();
     Container {
         value: before.value,
-        names: names,
-        text: text,
+        names: before.dictionary.num_field_names(),
+        text: before.dictionary.metadata_size(),
         entries: e.counts.entries,
         undo: e.counts.undo,
-        parent: parent,
-        object: object,
+        parent,
+        object,
         unique: e.unique,
         marks: 0,
     }

@@ -20,14 +20,16 @@ use Rattle.semantics.specs.Step.{Outcome, step, after, carried_out, containers_a
 use Rattle.semantics.proofs.Demand1.{none_at}
 use Rattle.semantics.proofs.ViewLaws.{both}
 use Rattle.refusals.proofs.ViewLaws.{neither, broken_none, undamaged_unbroken}
-use Rattle.builder.specs.declared.Answer.{Answer}
 use Rattle.builder.specs.declared.Answer.TheVariants.{Done, Refused}
 use Rattle.builder.specs.declared.Called.{Called}
-use Rattle.builder.specs.declared.FinishCalled.{FinishCalled}
+use Rattle.builder.specs.declared.FinishAnswer.TheVariants as finished
 use Rattle.actions.specs.declared.Moved.{Moved}
 use Rattle.actions.specs.declared.Opened.{Opened}
-use Rattle.builder.specs.Calls.{answer_number, answer_of, state, called_by, Does, finish_answer, Finishes}
-use Rattle.actions.specs.declared.UniqueSet.{UniqueSet}
+use Rattle.builder.specs.Calls.{answer_number, answer_of, state, called_by, moved_by, refused_by, Does, Finishes}
+use Rattle.std.specs.Prelude.{Result, Ok, Err}
+use Rattle.semantics.specs.declared.refusal.Refusal.{Refusal}
+use Rattle.semantics.specs.Refusal.{refusal_number}
+use Rattle.semantics.proofs.RefusalLaws.{number_some}
 use Rattle.actions.specs.declared.Marked.{Marked}
 use Rattle.actions.specs.declared.Returned.{Returned}
 use Rattle.actions.specs.declared.Ended.{Ended}
@@ -63,14 +65,6 @@ module _ (b : Builder) (ms : List ℕ) (l : Storage) (c : Call) where
 
 -- ---- a call that changes no container and sets no mark
 
--- the record with other counts and elements
-abbrev with_moved : Builder → Moved → Called
-with_moved b r =
-    record {
-      answer = answer_of r.number;
-      builder = record { containers = b.containers; elements = elements_put b.elements r.counts.depth r.elements; counts = r.counts };
-    }
-
 -- it goes to no mark, and leaves the table and the containers
 stays : (v : View) (l : Storage) (c : Call) (ms : List ℕ) (ks : List Container) → Stays c
     → (mark_to v ms c ≡ no_mark) × (marks_after v c ms ≡ ms) × (containers_after v l no_mark c ks ≡ ks)
@@ -84,47 +78,57 @@ stays v l set_mark ms ks s = absurd s
 stays v l (return_to j) ms ks s = absurd s
 stays v l (finish out) ms ks s = absurd s
 
-pub does_moved : (b : Builder) (ms : List ℕ) (l : Storage) (c : Call) {v : View} {r : Moved} {e : Storage} {x : Called} → Stays c → v ≡ view_of b ms → Leaves v l c r e
-    → x ≡ with_moved b r → Does x ms e (step (state b ms l) c)
-unfolding after
-does_moved b ms l c {v} {r} {e} {x} s p q d = go (eqb (number_of (view_of b ms) l c) 0) refl (rw p at q)
-  where
-    go : (t : Bool) → eqb (number_of (view_of b ms) l c) 0 ≡ t → Leaves (view_of b ms) l c r e → Does x ms e (step (state b ms l) c)
-    go true z q =
-        let k = stays (view_of b ms) l c ms b.containers s in
-        step_done b ms l c z (rw (d, elements_left_lem b ms l c s q, q.number, q.counts, z, k.0, k.2) refl) (rw (q.storage, z, k.0) refl) (sym k.1)
-    go false z q = step_refused b ms l c z (rw (d, elements_left_lem b ms l c s q, q.number, q.counts, z) refl) (rw (q.storage, z) refl)
+-- what a call that is carried out gives
+told : {A : Type 0} → A → Result A Refusal → A
+told m (Ok r) = r
+told m (Err e) = m
+
+pub does_moved : (b : Builder) (ms : List ℕ) (l : Storage) (c : Call) {v : View} (r : Result Moved Refusal) {e : Storage} {x : Called} → Stays c → v ≡ view_of b ms → Leaves v l c r e
+    → x ≡ moved_by b r → Does x ms e (step (state b ms l) c)
+unfolding after told
+does_moved b ms l c (Ok m) {e} s p q d =
+    let w = rw p at q in
+    let z = sym w.number in
+    let n = eq-eqb (number_of (view_of b ms) l c) 0 z in
+    let h = ap (told m) (w.moved z) in
+    let k = stays (view_of b ms) l c ms b.containers s in
+    step_done b ms l c n (rw (d, elements_left_lem b ms l c s h, h, k.0, k.2) refl) (rw (w.storage, n, k.0) refl) (sym k.1)
+does_moved b ms l c (Err f) {e} s p q d =
+    let w = rw p at q in
+    let n = ne_eqb (number_of (view_of b ms) l c) 0 (λ z. number_some f (w.number ∙ z)) in
+    step_refused b ms l c n (rw (d, w.number) refl) (rw (w.storage, n) refl)
 
 -- ---- a call that may change a container or a mark
 
 module _ (b : Builder) (ms : List ℕ) (l : Storage) {v : View} (p : v ≡ view_of b ms) where
   -- refused, it leaves all as it was
-  pub does_refused : (c : Call) {n : ℕ} {a : Answer} {e : Storage} → n ≡ number_of v l c → (n ≡ 0 → ⊥) → a ≡ answer_of n → (eqb (number_of v l c) 0 ≡ false → e ≡ l)
-      → Does (record { answer = a; builder = b }) ms e (step (state b ms l) c)
-  does_refused c q h d f =
-      let z = rw p at (ne_eqb (number_of v l c) 0 (λ g. h (q ∙ g))) in
-      step_refused b ms l c z (rw (d, q, p, z) refl) ((rw p at f) z)
+  pub does_refused : (c : Call) (f : Refusal) {e : Storage} {x : Called} → refusal_number f ≡ number_of v l c → x ≡ refused_by b f → (eqb (number_of v l c) 0 ≡ false → e ≡ l)
+      → Does x ms e (step (state b ms l) c)
+  does_refused c g q d f =
+      let z = rw p at (ne_eqb (number_of v l c) 0 (λ h. number_some g (q ∙ h))) in
+      step_refused b ms l c z (rw (d, q, p) refl) ((rw p at f) z)
 
   -- there is room for a container that is opened
-  pub opened_deep : {nm : Option Name} {object : Bool} {r : Opened} {e : Storage} → Opens v l nm object r e → r.number ≡ 0 → b.counts.depth < 64
-  opened_deep {nm} {object} q h =
-      leb-false 64 b.counts.depth (none_at (view_of b ms) l (open_in nm object) (rw p at (sym q.number ∙ h)) 11)
+  pub opened_deep : {nm : Option Name} {object : Bool} {r : Opened} {e : Storage} → Opens v l nm object (Ok r) e → b.counts.depth < 64
+  opened_deep {nm} {object} q =
+      leb-false 64 b.counts.depth (none_at (view_of b ms) l (open_in nm object) (rw p at (sym q.number)) 11)
 
-  pub does_opened : {nm : Option Name} {object : Bool} {r : Opened} {x : Called} {e : Storage} {outer all : List ℕ} → Opens v l nm object r e → r.number ≡ 0
+  pub does_opened : {nm : Option Name} {object : Bool} {r : Opened} {x : Called} {e : Storage} {outer all : List ℕ} → Opens v l nm object (Ok r) e
       → outer ≡ elements_put b.elements b.counts.depth r.elements → all ≡ elements_put outer (b.counts.depth + 1) 0
-      → x ≡ record { answer = answer_of 0; builder = record { containers = set b.containers b.counts.depth r.container; elements = all; counts = r.counts } }
+      → x ≡ record { answer = Done; builder = record { containers = set b.containers b.counts.depth r.container; elements = all; counts = r.counts } }
       → Does x ms e (step (state b ms l) (open_in nm object))
-  unfolding after
-  does_opened {nm} {object} q h o a d =
+  unfolding after told
+  does_opened {nm} {object} {r} q o a d =
       let w = rw p at q in
-      let z = eq-eqb (number_of (view_of b ms) l (open_in nm object)) 0 (sym w.number ∙ h) in
-      step_done b ms l (open_in nm object) z (rw (d, a, o, w.elements, w.container, w.counts, z, elements_opened b ms) refl) (rw (w.storage, z) refl) refl
+      let y = sym w.number in
+      let z = eq-eqb (number_of (view_of b ms) l (open_in nm object)) 0 y in
+      step_done b ms l (open_in nm object) z (rw (d, a, o, ap (told r) (w.opened y), elements_opened b ms) refl) (rw (w.storage, z) refl) refl
 
 -- ---- a call that changes the innermost container
 
 abbrev with_inner : Builder → Container → List ℕ → Counts → Called
 with_inner b k ns c =
-    record { answer = answer_of 0; builder = record { containers = set b.containers (b.counts.depth - 1) k; elements = ns; counts = c } }
+    record { answer = Done; builder = record { containers = set b.containers (b.counts.depth - 1) k; elements = ns; counts = c } }
 
 -- at most 64 are open, where the chain holds
 pub chain_few : (ks : List Container) (ns : List ℕ) (d : ℕ) → chained ks ns d ≡ true → d ≤ 64
@@ -145,60 +149,72 @@ few_open b ms l x o e =
 
 module _ (b : Builder) (ms : List ℕ) (l : Storage) {v : View} (p : v ≡ view_of b ms) where
   -- the uniqueness mark
-  pub unique_inside : {u : Bool} {r : UniqueSet} → SetsUnique v l u r → r.number ≡ 0 → Inside b
-  unique_inside {u} q h = unique_open b ms l u (rw p at (sym q.number ∙ h))
+  pub unique_inside : {u : Bool} {k : Container} → SetsUnique v l u (Ok k) → Inside b
+  unique_inside {u} q = unique_open b ms l u (rw p at (sym q.number))
 
-  pub unique_done : {u : Bool} {r : UniqueSet} {x : Called} → SetsUnique v l u r → r.number ≡ 0 → x ≡ with_inner b r.container b.elements b.counts
+  pub unique_done : {u : Bool} {k : Container} {x : Called} → SetsUnique v l u (Ok k) → x ≡ with_inner b k b.elements b.counts
       → Does x ms l (step (state b ms l) (uniqueness u))
-  unfolding after
-  unique_done {u} q h d =
+  unfolding after told
+  unique_done {u} {k} q d =
       let w = rw p at q in
-      let z = eq-eqb (number_of (view_of b ms) l (uniqueness u)) 0 (sym w.number ∙ h) in
-      step_done b ms l (uniqueness u) z (rw (d, w.container, z) refl) refl refl
+      let y = sym w.number in
+      let z = eq-eqb (number_of (view_of b ms) l (uniqueness u)) 0 y in
+      step_done b ms l (uniqueness u) z (rw (d, ap (told k) (w.container y)) refl) refl refl
 
   -- a mark
-  pub mark_inside : {r : Marked} → SetsMark v l r → r.number ≡ 0 → Inside b
-  mark_inside q h =
-      let k = none_at (view_of b ms) l set_mark (rw p at (sym q.number ∙ h)) in
+  pub mark_inside : {r : Marked} → SetsMark v l (Ok r) → Inside b
+  mark_inside q =
+      let k = none_at (view_of b ms) l set_mark (rw p at (sym q.number)) in
       few_open b ms l false (neither (not (is_open (view_of b ms))) _ (k 22)).0 (k 1)
 
-  pub mark_done : {r : Marked} {x : Called} {ts : List ℕ} → SetsMark v l r → r.number ≡ 0 → ts ≡ put_mark ms (slot_of (b.counts.depth - 1) r.container.marks) r.mark
+  pub mark_done : {r : Marked} {x : Called} {ts : List ℕ} → SetsMark v l (Ok r) → ts ≡ put_mark ms (slot_of (b.counts.depth - 1) r.container.marks) r.mark
       → x ≡ with_inner b r.container b.elements b.counts → Does x ts l (step (state b ms l) set_mark)
-  unfolding after with_marks
-  mark_done q h t d =
+  unfolding after told with_marks
+  mark_done {r} q t d =
       let w = rw p at q in
-      let z = eq-eqb (number_of (view_of b ms) l set_mark) 0 (sym w.number ∙ h) in
-      step_done b ms l set_mark z (rw (d, w.container, z) refl) refl (rw (t, w.container, w.mark, z) refl)
+      let y = sym w.number in
+      let z = eq-eqb (number_of (view_of b ms) l set_mark) 0 y in
+      let h = ap (told r) (w.marked y) in
+      step_done b ms l set_mark z (rw (d, h) refl) refl (rw (t, h) refl)
 
   -- a return, to the mark that stands in the table
-  pub return_inside : {j : ℕ} {m : Mark} {r : Returned} {e : Storage} → Returns v l m j r e → r.number ≡ 0 → Inside b
-  return_inside {j} q h =
-      let k = none_at (view_of b ms) l (return_to j) (rw p at (sym q.number ∙ h)) in
+  pub return_inside : {j : ℕ} {m : Mark} {r : Returned} {e : Storage} → Returns v l m j (Ok r) e → Inside b
+  return_inside {j} q =
+      let k = none_at (view_of b ms) l (return_to j) (rw p at (sym q.number)) in
       few_open b ms l _ (neither (not (is_open (view_of b ms))) _ (k 22)).0 (k 1)
 
-  pub return_storage : {at j : ℕ} {m : Mark} {r : Returned} {e : Storage} → at ≡ b.counts.depth - 1 → m ≡ mark_at ms (slot_of at j) → Returns v l m j r e
+  pub return_storage : {at j : ℕ} {m : Mark} {r : Result Returned Refusal} {e : Storage} → at ≡ b.counts.depth - 1 → m ≡ mark_at ms (slot_of at j) → Returns v l m j r e
       → e ≡ cond (eqb (number_of v l (return_to j)) 0) (carried_out v l m (return_to j)).storage l
   return_storage {at} {j} a f q = rw p ((rw p at q).storage (λ z. rw (f, a) (return_reachable b ms l j z)))
 
-  pub return_done : {at j : ℕ} {m : Mark} {r : Returned} {e : Storage} {ns : List ℕ} {x : Called} → at ≡ b.counts.depth - 1 → m ≡ mark_at ms (slot_of at j) → Returns v l m j r e
-      → r.number ≡ 0 → ns ≡ elements_put b.elements b.counts.depth r.elements → x ≡ with_inner b r.container ns r.counts
+  pub return_done : {at j : ℕ} {m : Mark} {r : Returned} {e : Storage} {ns : List ℕ} {x : Called} → at ≡ b.counts.depth - 1 → m ≡ mark_at ms (slot_of at j) → Returns v l m j (Ok r) e
+      → ns ≡ elements_put b.elements b.counts.depth r.elements → x ≡ with_inner b r.container ns r.counts
       → Does x ms e (step (state b ms l) (return_to j))
-  unfolding after
-  return_done {at} {j} {m} a f q h n d =
+  unfolding after told
+  return_done {at} {j} {m} {r} a f q n d =
       let w = rw p at q in
-      let z = eq-eqb (number_of (view_of b ms) l (return_to j)) 0 (sym w.number ∙ h) in
-      let i = lt-ltb 0 b.counts.depth (return_inside q h).0 in
+      let y = sym w.number in
+      let z = eq-eqb (number_of (view_of b ms) l (return_to j)) 0 y in
+      let i = lt-ltb 0 b.counts.depth (return_inside q).0 in
       let s = rw p at (return_storage a f q) in
       let k = rw a at f in
-      step_done b ms l (return_to j) z (rw (d, n, w.container, w.elements, w.counts, z, k, i) refl) (rw (s, z, k) refl) refl
+      step_done b ms l (return_to j) z (rw (d, n, ap (told r) (w.returned y), k, i) refl) (rw (s, z, k) refl) refl
 
 -- ---- a finish
-pub does_finished : (b : Builder) (ms : List ℕ) (l : Storage) (out : List ℕ) {v : View} {r : Ended} {left : List ℕ} {x : FinishCalled} → v ≡ view_of b ms → Ends v l out r left
-    → x ≡ record { answer = finish_answer r.number r.written; builder = record { containers = b.containers; elements = b.elements; counts = r.counts } }
-    → Finishes x ms l left (step (state b ms l) (finish out))
-unfolding step after
-does_finished b ms l out {v} {r} {left} {x} p q d = go (eqb (number_of (view_of b ms) l (finish out)) 0) refl (rw p at q)
-  where
-    go : (t : Bool) → eqb (number_of (view_of b ms) l (finish out)) 0 ≡ t → Ends (view_of b ms) l out r left → Finishes x ms l left (step (state b ms l) (finish out))
-    go true z q = rw (d, q.number, q.counts, q.written, q.output, z) (refl, refl, refl, refl, refl, refl)
-    go false z q = rw (d, q.number, q.counts, q.written, q.output, z) (rw z, refl, refl, refl, refl, refl)
+
+module _ (b : Builder) (ms : List ℕ) (l : Storage) (out : List ℕ) {v : View} {left : List ℕ} (p : v ≡ view_of b ms) where
+  pub does_finished : {r : Ended} → Ends v l out (Ok r) left
+      → Finishes (record { answer = finished.Written r.written; builder = record { containers = b.containers; elements = b.elements; counts = r.counts } }) ms l left (step (state b ms l) (finish out))
+  unfolding step after told
+  does_finished {r} q =
+      let w = rw p at q in
+      let y = sym w.number in
+      let z = eq-eqb (number_of (view_of b ms) l (finish out)) 0 y in
+      rw (ap (told r) (w.ended y), w.output, z) (refl, refl, refl, refl, refl, refl)
+
+  pub finish_refused : {e : Refusal} → Ends v l out (Err e) left → Finishes (record { answer = finished.Refused (refusal_number e); builder = b }) ms l left (step (state b ms l) (finish out))
+  unfolding step
+  finish_refused {e} q =
+      let w = rw p at q in
+      let z = ne_eqb (number_of (view_of b ms) l (finish out)) 0 (λ h. number_some e (w.number ∙ h)) in
+      rw (w.output, w.number, z) (rw z, refl, refl, refl, refl, refl)

@@ -1,11 +1,15 @@
 -- A call's answer, record, table of marks and storage.
-use Rattle.std.specs.Prelude.{◌≡◌, Bool, true, false, cond, List, [], ◌∷◌, ℕ, eqb, replicate, take}
+use Rattle.std.specs.Prelude.{◌≡◌, Bool, true, false, cond, List, [], ◌∷◌, ℕ, eqb, replicate, take, Result, Ok, Err}
 use Rattle.encoding.specs.Rows.{first}
 use Rattle.semantics.specs.declared.Builder.{Builder}
 use Rattle.semantics.specs.Record.{Storage, State, Call, finish, no_container}
 use Rattle.semantics.specs.Table.{make_rows}
 use Rattle.semantics.specs.Step.{Outcome, step}
 use Rattle.semantics.specs.Run.{Fresh, fresh_counts, is_finish}
+use Rattle.semantics.specs.declared.refusal.Refusal.{Refusal}
+use Rattle.semantics.specs.Refusal.{refusal_number}
+use Rattle.actions.specs.declared.Moved.{Moved}
+use Rattle.actions.specs.Actions.{elements_put}
 use Rattle.builder.specs.declared.Answer.{Answer}
 use Rattle.builder.specs.declared.Answer.TheVariants.{Done, Refused}
 use Rattle.builder.specs.declared.Called.{Called}
@@ -73,6 +77,18 @@ fresh_of u floor =
 abbrev pub Makes : Called → Bool → ℕ → Type 0
 Makes r u floor =
     let n = first (make_rows floor) in (r ≡ record { answer = answer_of n; builder = fresh_of u floor }) × (answer_number r.answer ≡ n)
+
+-- ---- For the code.
+
+-- a refused call
+abbrev pub refused_by : Builder → Refusal → Called
+refused_by b e = record { answer = Refused (refusal_number e); builder = b }
+
+-- one that changes no container and sets no mark, from its piece
+abbrev pub moved_by : Builder → Result Moved Refusal → Called
+moved_by b (Ok m) =
+    record { answer = Done; builder = record { containers = b.containers; elements = elements_put b.elements m.counts.depth m.elements; counts = m.counts } }
+moved_by b (Err e) = refused_by b e
 
 -- ---- calls made one after the other
 

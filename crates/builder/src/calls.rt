@@ -7,9 +7,9 @@ ghost use Rattle.semantics.specs.Record.{close as close_of, finish as finish_of,
 ghost use Rattle.semantics.specs.Record.{storage_of};
 ghost use Rattle.semantics.specs.Step.{step};
 ghost use Rattle.refusals.specs.Decide.{name_of};
-ghost use Rattle.builder.specs.Calls.{Does, Finishes, finish_answer, state};
+ghost use Rattle.builder.specs.Calls.{Does, Finishes, state};
 
-use crate::view::{answer_of, called, called_with, with_elements};
+use crate::view::{called, called_with, refused, with_elements};
 use crate::{Called, FinishAnswer, FinishCalled};
 use actions::{
     append_bytes_over, append_civil_over, append_packed_over, append_uuid_over, append_value_over,
@@ -19,6 +19,7 @@ use actions::{
 use calendar::civil::Civil;
 use marks::{NUMBERS, mark_at, put_mark};
 use records::view_of;
+use refusals::{Seen, name_if};
 use semantics::Builder;
 use value::variant::{Variant, VariantBytes};
 
@@ -62,7 +63,8 @@ pub fn append_value(
         (append_of (name_of named name.now) (fixed x))) }
 {
     let v = view_of(&b, marks);
-    let r = append_value_over(v, value, text, ends, entries, undo, named, name, x);
+    let given = name_if(named, name);
+    let r = append_value_over(v, value, text, ends, entries, undo, given, x);
     called(b, r)
 }
 
@@ -85,7 +87,8 @@ pub fn append_civil(
         (append_of (name_of named name.now) (civil x))) }
 {
     let v = view_of(&b, marks);
-    let r = append_civil_over(v, value, text, ends, entries, undo, named, name, x);
+    let given = name_if(named, name);
+    let r = append_civil_over(v, value, text, ends, entries, undo, given, x);
     called(b, r)
 }
 
@@ -109,9 +112,8 @@ pub fn append_packed(
         (append_of (name_of named name.now) (packed scale bytes.now))) }
 {
     let v = view_of(&b, marks);
-    let r = append_packed_over(
-        v, value, text, ends, entries, undo, named, name, scale, bytes,
-    );
+    let given = name_if(named, name);
+    let r = append_packed_over(v, value, text, ends, entries, undo, given, scale, bytes);
     called(b, r)
 }
 
@@ -135,9 +137,8 @@ pub fn append_bytes(
         (append_of (name_of named name.now) (bytes_of kind bytes.now))) }
 {
     let v = view_of(&b, marks);
-    let r = append_bytes_over(
-        v, value, text, ends, entries, undo, named, name, kind, bytes,
-    );
+    let given = name_if(named, name);
+    let r = append_bytes_over(v, value, text, ends, entries, undo, given, kind, bytes);
     called(b, r)
 }
 
@@ -159,7 +160,8 @@ pub fn append_uuid(
         (append_of (name_of named name.now) (uuid_of uuid))) }
 {
     let v = view_of(&b, marks);
-    let r = append_uuid_over(v, value, text, ends, entries, undo, named, name, uuid);
+    let given = name_if(named, name);
+    let r = append_uuid_over(v, value, text, ends, entries, undo, given, uuid);
     called(b, r)
 }
 
@@ -223,14 +225,11 @@ fn new_container(
         (open_in (name_of named name.now) object)) }
 {
     let v = view_of(&b, marks);
-    let r = open_over(v, value, text, ends, entries, undo, named, name, object);
-    let n = r.number;
-    if n != 0 {
-        return Called {
-            answer: answer_of(n),
-            builder: b,
-        };
-    }
+    let given = name_if(named, name);
+    let r = match open_over(v, value, text, ends, entries, undo, given, object) {
+        Ok(r) => r,
+        Err(e) => return refused(b, e),
+    };
     let k = r.container;
     let c = r.counts;
     let d = b.counts.depth;
@@ -295,15 +294,18 @@ pub fn with_validate_unique_fields(
         (uniqueness unique)) }
 {
     let v = view_of(&b, marks);
-    let r = unique_over(v, value, text, ends, entries, undo, unique);
-    let n = r.number;
-    if n != 0 {
-        return Called {
-            answer: answer_of(n),
-            builder: b,
-        };
-    }
-    let k = r.container;
+    let s = Seen {
+        view: &v,
+        value,
+        text,
+        ends,
+        entries,
+        undo,
+    };
+    let k = match unique_over(&s, unique) {
+        Ok(k) => k,
+        Err(e) => return refused(b, e),
+    };
     let c = b.counts;
     let ns = b.elements;
     called_with(b, ns, b.counts.depth - 1, k, c)
@@ -325,14 +327,18 @@ pub fn mark(
         set_mark) }
 {
     let v = view_of(&b, marks);
-    let r = mark_over(v, value, text, ends, entries, undo);
-    let n = r.number;
-    if n != 0 {
-        return Called {
-            answer: answer_of(n),
-            builder: b,
-        };
-    }
+    let s = Seen {
+        view: &v,
+        value,
+        text,
+        ends,
+        entries,
+        undo,
+    };
+    let r = match mark_over(&s) {
+        Ok(r) => r,
+        Err(e) => return refused(b, e),
+    };
     let k = r.container;
     let m = r.mark;
     let c = b.counts;
@@ -362,14 +368,10 @@ pub fn return_to(
     let d = b.counts.depth;
     let at = d.saturating_sub(1);
     let p = mark_at(marks, at, mark);
-    let r = return_over(v, value, text, ends, entries, undo, mark, p);
-    let n = r.number;
-    if n != 0 {
-        return Called {
-            answer: answer_of(n),
-            builder: b,
-        };
-    }
+    let r = match return_over(v, value, text, ends, entries, undo, mark, p) {
+        Ok(r) => r,
+        Err(e) => return refused(b, e),
+    };
     let k = r.container;
     let c = r.counts;
     let ns = b.elements;
@@ -395,26 +397,32 @@ pub fn finish(
         (finish_of out.old)) }
 {
     let v = view_of(&b, marks);
-    let r = finish_over(v, value, text, ends, entries, undo, out);
-    let cs = b.containers;
-    let ns = b.elements;
-    let c = r.counts;
-    let next = Builder {
-        containers: cs,
-        elements: ns,
-        counts: c,
+    let s = Seen {
+        view: &v,
+        value,
+        text,
+        ends,
+        entries,
+        undo,
     };
-    FinishCalled {
-        answer: finish_answer(r.number, r.written),
-        builder: next,
+    match finish_over(&s, out) {
+        Ok(r) => {
+            let cs = b.containers;
+            let ns = b.elements;
+            let c = r.counts;
+            let next = Builder {
+                containers: cs,
+                elements: ns,
+                counts: c,
+            };
+            FinishCalled {
+                answer: FinishAnswer::Written(r.written),
+                builder: next,
+            }
+        }
+        Err(e) => FinishCalled {
+            answer: FinishAnswer::Refused(e.number()),
+            builder: b,
+        },
     }
-}
-
-fn finish_answer(n: u8, written: usize) -> FinishAnswer
-    ensures { result ≡ finish_answer n written }
-{
-    if n == 0 {
-        return FinishAnswer::Written(written);
-    }
-    FinishAnswer::Refused(n)
 }

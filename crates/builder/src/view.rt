@@ -1,12 +1,13 @@
 // The record made, and what a call gives back of it.
 ghost use Rattle.std.specs.Prelude.{◌≡◌, ◌<◌, set};
 ghost use Rattle.actions.specs.Actions.{elements_put};
-ghost use Rattle.builder.specs.Calls.{Makes, answer_of, fresh_of};
+ghost use Rattle.builder.specs.declared.Answer.TheVariants.{Done};
+ghost use Rattle.builder.specs.Calls.{Makes, fresh_of, moved_by, refused_by};
 
 use crate::{Answer, Called};
 use actions::Moved;
-use refusals::make_number;
-use semantics::{Builder, Container, Counts, fresh_counts, no_container};
+use refusals::may_make;
+use semantics::{Builder, Container, Counts, Refusal, fresh_counts, no_container};
 
 // A fresh builder of floor 1, under which every width is the least; children inherit the uniqueness mark.
 pub fn new(unique: bool) -> Builder
@@ -21,10 +22,9 @@ pub fn with_floor(unique: bool, floor: usize) -> Called
     ensures { Makes result unique floor }
 {
     let b = fresh(unique, floor);
-    let n = make_number(floor);
-    Called {
-        answer: answer_of(n),
-        builder: b,
+    match may_make(floor) {
+        Ok(()) => done(b),
+        Err(e) => refused(b, e),
     }
 }
 
@@ -38,26 +38,33 @@ fn fresh(unique: bool, floor: usize) -> Builder
     }
 }
 
-pub(crate) fn answer_of(n: u8) -> Answer
-    ensures { result ≡ answer_of n }
+fn done(b: Builder) -> Called
+    ensures { result ≡ record { answer = Done; builder = b } }
 {
-    if n == 0 {
-        return Answer::Done;
+    Called {
+        answer: Answer::Done,
+        builder: b,
     }
-    Answer::Refused(n)
+}
+
+// A refused call leaves the record.
+pub(crate) fn refused(b: Builder, e: Refusal) -> Called
+    ensures { result ≡ refused_by b e }
+{
+    Called {
+        answer: Answer::Refused(e.number()),
+        builder: b,
+    }
 }
 
 // The record with other counts, and other elements of the container that is innermost then.
-pub(crate) fn called(b: Builder, r: Moved) -> Called
-    ensures { result ≡ record {
-      answer = answer_of r.number;
-      builder = record {
-        containers = b.containers;
-        elements = elements_put b.elements r.counts.depth r.elements;
-        counts = r.counts;
-      };
-    } }
+pub(crate) fn called(b: Builder, r: Result<Moved, Refusal>) -> Called
+    ensures { result ≡ moved_by b r }
 {
+    let r = match r {
+        Ok(r) => r,
+        Err(e) => return refused(b, e),
+    };
     let cs = b.containers;
     let ns = b.elements;
     let c = r.counts;
@@ -66,10 +73,7 @@ pub(crate) fn called(b: Builder, r: Moved) -> Called
         elements: with_elements(ns, c.depth, r.elements),
         counts: c,
     };
-    Called {
-        answer: answer_of(r.number),
-        builder: next,
-    }
+    done(next)
 }
 
 // The elements with n of the innermost of d containers.
@@ -88,7 +92,7 @@ pub(crate) fn with_elements(ns: [usize; 64], d: usize, n: usize) -> [usize; 64]
 // The record with another container at a place, other elements and other counts.
 pub(crate) fn called_with(b: Builder, ns: [usize; 64], at: usize, k: Container, c: Counts) -> Called
     requires { at < 64 }
-    ensures { result ≡ record { answer = answer_of 0; builder = record { containers = set b.containers at k; elements = ns; counts = c } } }
+    ensures { result ≡ record { answer = Done; builder = record { containers = set b.containers at k; elements = ns; counts = c } } }
 {
     let mut cs = b.containers;
     cs[at] = k;
@@ -97,8 +101,5 @@ pub(crate) fn called_with(b: Builder, ns: [usize; 64], at: usize, k: Container, 
         elements: ns,
         counts: c,
     };
-    Called {
-        answer: answer_of(0),
-        builder: next,
-    }
+    done(next)
 }

@@ -1,5 +1,5 @@
 -- A date by the code of its type, and the answers of the calls that turn it into a day number and back.
-use mathlib.Core.Path.{◌≡◌, refl, sym}
+use mathlib.Core.Path.{◌≡◌, refl, sym, ap}
 use mathlib.Core.Bool.{Bool, true, false}
 use mathlib.Core.Logic.{◌⊎◌, inl, inr}
 use Prim.Native.Nat.{ℕ, ◌≤◌, ◌<◌}
@@ -14,21 +14,26 @@ use Rattle.calendar.specs.Gregorian.{day_number, date_of_day}
 use Rattle.calendar.specs.Answers.{answer, done, refused, date_rows, day_rows}
 use Rattle.calendar.proofs.AnswerLaws.{told_done, told_refused_lem}
 use Rattle.semantics.specs.Record.{civil}
+use Rattle.std.specs.Prelude.{Result, Err}
+use Rattle.semantics.specs.declared.refusal.Refusal.{Refusal}
+use Rattle.semantics.specs.declared.refusal.Refusal.TheVariants as refusal
+use Rattle.semantics.specs.Refusal.{number_told}
+use Rattle.semantics.proofs.RefusalLaws.{number_some}
 use Rattle.actions.specs.Actions.{StoredAs}
 use Rattle.ffi.specs.Dates.{date_of, civil_of, civil_by, TellsDays, TellsDate}
 
 -- a code that is none of the three
-pub no_civil : (code : ℕ) (d : Date) (time : ℤ) {x : Variant} → (code < 11) ⊎ (13 < code) → StoredAs (civil_by code d time) x 7
+pub no_civil : (code : ℕ) (d : Date) (time : ℤ) → (code < 11) ⊎ (13 < code) → StoredAs (civil_by code d time) (Err refusal.OutOfRange)
 unfolding civil_by first
-no_civil code d time (inl h) = rw (ne_eqb code 11 (λ e. omega arith), ne_eqb code 12 (λ e. omega arith), ne_eqb code 13 (λ e. omega arith)) (record { number = refl; scalar = λ z. absurd (omega arith) })
-no_civil code d time (inr h) = rw (ne_eqb code 11 (λ e. omega arith), ne_eqb code 12 (λ e. omega arith), ne_eqb code 13 (λ e. omega arith)) (record { number = refl; scalar = λ z. absurd (omega arith) })
+no_civil code d time (inl h) = rw (ne_eqb code 11 (λ e. omega arith), ne_eqb code 12 (λ e. omega arith), ne_eqb code 13 (λ e. omega arith)) (record { number = refl; scalar = λ x q. absurd (number_some refusal.OutOfRange (ap number_told q)) })
+no_civil code d time (inr h) = rw (ne_eqb code 11 (λ e. omega arith), ne_eqb code 12 (λ e. omega arith), ne_eqb code 13 (λ e. omega arith)) (record { number = refl; scalar = λ x q. absurd (number_some refusal.OutOfRange (ap number_told q)) })
 
 -- and one that is
-pub some_civil : (code : ℕ) (d : Date) (time : ℤ) {x : Variant} {n : ℕ} → 11 ≤ code → code ≤ 13 → StoredAs (civil (civil_of code d time)) x n → StoredAs (civil_by code d time) x n
+pub some_civil : (code : ℕ) (d : Date) (time : ℤ) {r : Result Variant Refusal} → 11 ≤ code → code ≤ 13 → StoredAs (civil (civil_of code d time)) r → StoredAs (civil_by code d time) r
 unfolding civil_by
-some_civil code d time {x} {n} low high s = go (eqb code 11) (eqb code 12) refl refl
+some_civil code d time {r} low high s = go (eqb code 11) (eqb code 12) refl refl
   where
-    go : (a b : Bool) → eqb code 11 ≡ a → eqb code 12 ≡ b → StoredAs (civil_by code d time) x n
+    go : (a b : Bool) → eqb code 11 ≡ a → eqb code 12 ≡ b → StoredAs (civil_by code d time) r
     go true b p q = rw p (rw p at s)
     go false true p q = rw (p, q) (rw (p, q) at s)
     go false false p q =

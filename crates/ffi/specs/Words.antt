@@ -1,5 +1,5 @@
 -- The state words: 777 numbers, and the builder that they mean. Any words mean one: a flag is "not 0".
-use Rattle.std.specs.Prelude.{◌≡◌, Bool, cond, not, List, [], ◌∷◌, ℕ, zero, suc, ◌+◌, ◌-◌, ◌*◌, eqb, ltb, get_or, set}
+use Rattle.std.specs.Prelude.{◌≡◌, Bool, cond, not, List, [], ◌∷◌, ℕ, zero, suc, ◌+◌, ◌-◌, ◌*◌, eqb, ltb, get_or, set, IfOk, IfErr, Result}
 use Rattle.encoding.specs.Rows.{first}
 use Rattle.metadata.specs.Calls.{from_parts}
 use Rattle.semantics.specs.declared.Builder.{Builder}
@@ -16,6 +16,8 @@ use Rattle.metadata.specs.Names.{Name, field_names, text_size}
 use Rattle.refusals.specs.Decide.{enter_rows}
 use Rattle.actions.specs.declared.enter.Entered.{Entered}
 use Rattle.actions.specs.Actions.{EntersBy, elements_left, elements_put, one_more}
+use Rattle.semantics.specs.declared.refusal.Refusal.{Refusal}
+use Rattle.semantics.specs.Refusal.{number_told}
 use Rattle.actions.specs.declared.Moved.{Moved}
 
 -- the word at place i
@@ -223,14 +225,14 @@ pub record PutsInner (before after : List ℕ) (c : Counts) (d n : ℕ) : Type 0
   pub words : after ≡ elements_written (counts_put before c) d n
   pub builder : builder_of after ≡ record { containers = containers_of before; elements = elements_put (elements_of before) d n; counts = c }
 
--- a piece's number, counts and elements put back: these only where the number is 0
-pub record Puts (r : Moved) (n : ℕ) (before after : List ℕ) : Type 0 where
-  pub number : n ≡ r.number
-  pub put : r.number ≡ 0 → PutsInner before after r.counts r.counts.depth r.elements
-  pub kept : (r.number ≡ 0 → ⊥) → after ≡ before
+-- a piece's number, and its counts and elements put back where it is carried out
+pub record Puts (r : Result Moved Refusal) (n : ℕ) (before after : List ℕ) : Type 0 where
+  pub number : n ≡ number_told r
+  pub put : IfOk r (λ m. PutsInner before after m.counts m.counts.depth m.elements)
+  pub kept : IfErr r (λ e. after ≡ before)
 
 -- what a register, an append or an open enters, and the words then
-pub record EntersWords (before after ms : List ℕ) (l : Storage) (nm : Option Name) (into opens : Bool) (own size : ℕ) (r : Entered) (text ends : List ℕ) : Type 0 where
+pub record EntersWords (before after ms : List ℕ) (l : Storage) (nm : Option Name) (into opens : Bool) (own size : ℕ) (r : Result Entered Refusal) (text ends : List ℕ) : Type 0 where
   pub enters : EntersBy (view_of (builder_of before) ms) l nm into opens size (first (enter_rows (view_of (builder_of before) ms) l nm into opens own size)) r text ends
-  pub put : r.number ≡ 0 → PutsInner before after r.counts (counts_of before).depth r.elements
-  pub kept : (r.number ≡ 0 → ⊥) → after ≡ before
+  pub put : IfOk r (λ e. PutsInner before after e.counts (counts_of before).depth e.elements)
+  pub kept : IfErr r (λ e. after ≡ before)

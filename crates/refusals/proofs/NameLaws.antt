@@ -1,18 +1,16 @@
 -- What is known of a name, from its look-up and the pass over the innermost entries.
 use mathlib.Core.Path.{◌≡◌, refl, sym, ◌∙◌, ap}
-use mathlib.Core.Bool.{Bool, true, false, cond, not, ◌&&◌, ◌||◌, true≢false, and-false}
-use mathlib.Core.Option.{none, some}
+use mathlib.Core.Bool.{Bool, true, false, cond, not, ◌&&◌, true≢false, and-false}
+use mathlib.Core.Option.{some, none}
+use Rattle.std.specs.Prelude.{is_some, Some, None, Result, Ok, Err}
 use Prim.Native.Nat.{ℕ, suc, ◌+◌}
 use native.Mathlib.Omega.{arith}
-use lib.Dec.{eqb, ltb}
+use lib.Dec.{ltb}
 use lib.ListN.{length}
-use borrow.Author.Tests.{ltb-false, not-true, not-false}
+use borrow.Author.Tests.{ltb-false}
 use Rattle.encoding.specs.Utf8.{utf8}
-use Rattle.std.specs.Prelude.{Result, Ok, Err}
-use Rattle.metadata.specs.declared.FieldName.{FieldName}
-use Rattle.metadata.specs.declared.NameError.{NameError}
 use Rattle.metadata.specs.Names.{Name, intact, field_names}
-use Rattle.metadata.specs.Calls.{Told, lookup, told, has_room}
+use Rattle.metadata.specs.Calls.{Told, lookup, has_room}
 use Rattle.metadata.proofs.DictionaryLaws.{place_low}
 use Rattle.metadata.proofs.BytesLaws.{length_names}
 use Rattle.container.specs.declared.Search.{Search}
@@ -21,76 +19,84 @@ use Rattle.semantics.specs.declared.View.{View}
 use Rattle.semantics.specs.Record.{Storage, is_open, in_object, inner_size, inner_entries, names_held}
 use Rattle.semantics.specs.Damage.{fallen_ends, misplaced_inner}
 use Rattle.semantics.specs.Table.{held, id_of}
-use Rattle.refusals.specs.declared.Field.{Field}
 use Rattle.refusals.specs.declared.lookup.Known.{Known}
-use Rattle.refusals.specs.declared.lookup.Named.{Named}
-use Rattle.refusals.specs.Decide.{name_of, field_of, no_field, broken_of, told_by, Sees}
+use Rattle.semantics.specs.declared.refusal.Refusal.{Refusal}
+use Rattle.semantics.specs.declared.refusal.Refusal.TheVariants as refusal
+use Rattle.semantics.specs.Refusal.{number_told}
+use Rattle.semantics.proofs.RefusalLaws.{number_some}
+use Rattle.refusals.specs.Decide.{field_of, no_field, broken_of, known_id, field_by, named_by, live_told, told_by, Sees}
 pub use Rattle.refusals.proofs.ViewLaws.{Within, within, entries_within, ends_read, range_within, found_before}
 
--- an answer's number and values, of the variant that it is
-pub told_by_lem : {f g : Result FieldName NameError} {k h : Known} {t : Told} → told f ≡ t → f ≡ g → k ≡ h → told_by h ≡ told g → told_by k ≡ t
-told_by_lem p q r e = ap told_by r ∙ (e ∙ (ap told (sym q) ∙ p))
+-- ---- what a look-up's number says
 
-pub told_err : {f : Result FieldName NameError} {a g : NameError} {k h : Known} {t : Told} → told f ≡ t → f ≡ Err a → a ≡ g → k ≡ h → told_by h ≡ told (Err g) → told_by k ≡ t
-told_err p q s r e = told_by_lem p (q ∙ ap Err s) r e
+-- a number n, not 0: the look-up is refused, and with that number or, where an entry is misplaced, 1
+refused_by : (into : Bool) (v : View) (k : Result Known Refusal) (s : Search) (n : ℕ) → (told_by k).number ≡ suc n
+    → number_told (named_by into v k s) ≡ cond (into && (in_object v && s.misplaced)) 1 (suc n)
+refused_by into v (Ok k) s n e = absurd (omega arith)
+refused_by into v (Err r) s n e = go (into && (in_object v && s.misplaced))
+  where
+    go : (t : Bool) → number_told (cond t (Err refusal.Damaged) (field_by into v s (Err r))) ≡ cond t 1 (suc n)
+    go true = refl
+    go false = e
 
-pub told_ok : {f : Result FieldName NameError} {a g : FieldName} {k h : Known} {t : Told} → told f ≡ t → f ≡ Ok a → a ≡ g → k ≡ h → told_by h ≡ told (Ok g) → told_by k ≡ t
-told_ok p q s r e = told_by_lem p (q ∙ ap Ok s) r e
+-- and then no field is live
+unlive_by : (into : Bool) (v : View) (k : Result Known Refusal) (s : Search) (n : ℕ) → (told_by k).number ≡ suc n → live_told (named_by into v k s) ≡ false
+unlive_by into v (Ok k) s n e = absurd (omega arith)
+unlive_by into v (Err r) s n e = go (into && (in_object v && s.misplaced))
+  where
+    go : (t : Bool) → live_told (cond t (Err refusal.Damaged) (field_by into v s (Err r))) ≡ false
+    go true = refl
+    go false = refl
+
+-- number 0: the name has an id
+known_by : (k : Result Known Refusal) (id : ℕ) (new : Bool) → told_by k ≡ record { number = 0; id = id; new = new } → k ≡ Ok (record { id = id; new = new })
+known_by (Ok k) id new e = rw (← ap (λ (x : Told). x.id) e, ← ap (λ (x : Told). x.new) e) refl
+known_by (Err r) id new e = absurd (number_some r (ap (λ (x : Told). x.number) e))
 
 -- ---- a name
 
-sees_none : (into : Bool) (v : View) (l : Storage) → Sees into v l none (record { field = no_field; number = 0 })
+pub sees_none : (into : Bool) (v : View) (l : Storage) → Sees into v l none (Ok no_field)
 unfolding field_of
 sees_none true v l = record { number = refl; live = λ p q. refl; field = λ p. refl }
 sees_none false v l = record { number = refl; live = λ p q. refl; field = λ p. refl }
 
--- the name as it is known, with its entry
-abbrev live_by : Bool → View → Known → Search → Bool
-live_by into v k s = (into && is_open v) && ((eqb k.number 0 && not k.new) && ltb s.place v.counts.entries)
-
-abbrev named : Bool → View → Known → Search → Named
-named into v k s =
-    record {
-      field = record { id = k.id; place = cond (live_by into v k s) s.place 0; new = k.new; live = live_by into v k s };
-      number = cond (eqb k.number 1 || ((into && in_object v) && s.misplaced)) 1 k.number;
-    }
+ones : (t : Bool) → ◌≡◌ {A = ℕ} (cond t 1 1) 1
+ones true = refl
+ones false = refl
 
 not_zero : (b : Bool) (x : ℕ) → cond b 1 (suc x) ≡ 0 → ⊥
 not_zero true x e = omega arith
 not_zero false x e = omega arith
 
-none_into : (i o : Bool) → ((i && o) && false) ≡ (i && (o && false))
-none_into true o = refl
+none_into : (i o : Bool) → (i && (o && false)) ≡ false
+none_into true o = and-false o
 none_into false o = refl
 
-module _ (into : Bool) (v : View) (l : Storage) (n : Name) (k : Known) (s : Search) (unbroken : broken_of v l ≡ false)
+-- a live place is one that there is
+some_place : (t : Bool) (n : ℕ) → is_some (cond t (Some n) None) ≡ t
+some_place true n = refl
+some_place false n = refl
+
+module _ (into : Bool) (v : View) (l : Storage) (n : Name) (k : Result Known Refusal) (s : Search) (unbroken : broken_of v l ≡ false)
     (e : told_by k ≡ lookup v.counts.dictionary l.text l.ends n)
-    (q : Searches l.entries v.inner.entries v.counts.entries true (field_names v.counts.dictionary) (inner_size v) k.id s) where
+    (q : Searches l.entries v.inner.entries v.counts.entries true (field_names v.counts.dictionary) (inner_size v) (known_id k) s) where
   any : (in_object v && s.misplaced) ≡ misplaced_inner v l
   unfolding misplaced_inner
   any = rw (q.misplaced_any, range_within l.entries v.inner.entries v.counts.entries (entries_within v l unbroken))
 
-  any_into : ((into && in_object v) && s.misplaced) ≡ (into && misplaced_inner v l)
-  any_into = go into
-    where
-      go : (i : Bool) → ((i && in_object v) && s.misplaced) ≡ (i && misplaced_inner v l)
-      go true = any
-      go false = refl
+  any_into : (into && (in_object v && s.misplaced)) ≡ (into && misplaced_inner v l)
+  any_into = ap (λ t. into && t) any
 
-  at : s.place ≡ v.inner.entries + seek k.id (inner_entries v l)
+  at : s.place ≡ v.inner.entries + seek (known_id k) (inner_entries v l)
   at = rw (range_within l.entries v.inner.entries v.counts.entries (entries_within v l unbroken)) at q.place_first
 
-  found : ltb s.place v.counts.entries ≡ ltb (seek k.id (inner_entries v l)) (length (inner_entries v l))
-  found = rw at (found_before l.entries v.inner.entries v.counts.entries k.id)
+  found : ltb s.place v.counts.entries ≡ ltb (seek (known_id k) (inner_entries v l)) (length (inner_entries v l))
+  found = rw at (found_before l.entries v.inner.entries v.counts.entries (known_id k))
 
-  -- a name that is held
-  field_held : k.number ≡ 0 → k.new ≡ false → held v l n ≡ true → k.id ≡ id_of v l n → (named into v k s).field ≡ field_of into v l (some n)
-  unfolding field_of
-  field_held nu ne h id = go into
-    where
-      go : (i : Bool) → (named i v k s).field ≡ field_of i v l (some n)
-      go true = rw (nu, ne, found, at, h, id)
-      go false = rw (ne, h, id)
+  -- no entry misplaced: the field, of a name that has an id
+  fielded : (id : ℕ) (new : Bool) → k ≡ Ok (record { id = id; new = new }) → (into && misplaced_inner v l) ≡ false
+      → named_by into v k s ≡ Ok (record { id = id; place = cond (into && (is_open v && (not new && ltb s.place v.counts.entries))) (Some s.place) None; new = new })
+  fielded id new e m = rw (any_into, m, e) refl
 
   -- a name that is not held gets the next id
   fresh_id : intact v.counts.dictionary l.text l.ends ≡ true → held v l n ≡ false → id_of v l n ≡ field_names v.counts.dictionary
@@ -98,55 +104,63 @@ module _ (into : Bool) (v : View) (l : Storage) (n : Name) (k : Known) (s : Sear
       let a = length_names v.counts.dictionary l.text l.ends i in
       omega (arith, ltb-false (id_of v l n) (field_names v.counts.dictionary) h, place_low n (names_held v l))
 
+  -- a name that has an id, where an entry is misplaced
+  misplaced_named : (id : ℕ) (new : Bool) → k ≡ Ok (record { id = id; new = new }) → fallen_ends v l ≡ false → (into && misplaced_inner v l) ≡ true → Sees into v l (some n) (named_by into v k s)
+  misplaced_named id new e f m =
+      let z : named_by into v k s ≡ Err refusal.Damaged = rw (any_into, m) in
+      record { number = rw (z, f, m); live = λ p. absurd (true≢false (rw (f, m) at p)); field = λ p. absurd (not_zero true 0 (rw z at p)) }
+
+  -- and where none is: a name that is held
+  held_cases : k ≡ Ok (record { id = id_of v l n; new = false }) → held v l n ≡ true → utf8 n ≡ true → fallen_ends v l ≡ false → (m : Bool) → (into && misplaced_inner v l) ≡ m
+      → Sees into v l (some n) (named_by into v k s)
+  unfolding field_of
+  held_cases e h u f true m = misplaced_named (id_of v l n) false e f m
+  held_cases e h u f false m =
+      let z = fielded (id_of v l n) false e m in
+      let w : named_by into v k s ≡ Ok (field_of into v l (some n)) = rw z (rw (found, at, e, h)) in
+      record { number = rw (z, f, m, u, h); live = λ p q. rw w (some_place _ _); field = λ p. w }
+
+  -- one that is not, and gets the next id
+  fresh_cases : k ≡ Ok (record { id = field_names v.counts.dictionary; new = true }) → intact v.counts.dictionary l.text l.ends ≡ true → held v l n ≡ false → has_room v.counts.dictionary l.text l.ends n ≡ true
+      → utf8 n ≡ true → fallen_ends v l ≡ false → (m : Bool) → (into && misplaced_inner v l) ≡ m → Sees into v l (some n) (named_by into v k s)
+  unfolding field_of
+  fresh_cases e i h r u f true m = misplaced_named _ true e f m
+  fresh_cases e i h r u f false m =
+      let z = fielded _ true e m in
+      let w : named_by into v k s ≡ Ok (field_of into v l (some n)) = rw z (rw (h, none_into into (is_open v), fresh_id i h)) in
+      record { number = rw (z, f, m, u, h, r); live = λ p q. rw w (some_place _ _); field = λ p. w }
+
   -- the cases of a look-up: intact, UTF-8, held, room
-  sees_name : Sees into v l (some n) (named into v k s)
+  pub sees_name : Sees into v l (some n) (named_by into v k s)
   unfolding field_of lookup
   sees_name = go (intact v.counts.dictionary l.text l.ends) (utf8 n) (held v l n) (has_room v.counts.dictionary l.text l.ends n) refl refl refl refl
     where
-      go : (a b c d : Bool) → intact v.counts.dictionary l.text l.ends ≡ a → utf8 n ≡ b → held v l n ≡ c → has_room v.counts.dictionary l.text l.ends n ≡ d → Sees into v l (some n) (named into v k s)
+      go : (a b c d : Bool) → intact v.counts.dictionary l.text l.ends ≡ a → utf8 n ≡ b → held v l n ≡ c → has_room v.counts.dictionary l.text l.ends n ≡ d → Sees into v l (some n) (named_by into v k s)
       go false b c d i u h r =
           let f : fallen_ends v l ≡ true = sym (ends_read v l unbroken) ∙ ap not i in
-          let nu : k.number ≡ 1 = ap (λ (x : Told). x.number) (rw i at e) in
-          record { number = rw (nu, f); live = λ p. absurd (true≢false (rw f at p)); field = λ p. absurd (not_zero true 0 (rw nu at p)) }
+          let nu : (told_by k).number ≡ 1 = ap (λ (x : Told). x.number) (rw i at e) in
+          let z = refused_by into v k s 0 nu in
+          record { number = rw (f, z, any_into) (ones (into && misplaced_inner v l)); live = λ p. absurd (true≢false (rw f at p)); field = λ p. absurd (not_zero _ 0 (sym z ∙ p)) }
       go true b c d i u h r = told_cases b c d i u h r (sym (ends_read v l unbroken) ∙ ap not i)
         where
-          told_cases : (b c d : Bool) → intact v.counts.dictionary l.text l.ends ≡ true → utf8 n ≡ b → held v l n ≡ c → has_room v.counts.dictionary l.text l.ends n ≡ d → fallen_ends v l ≡ false → Sees into v l (some n) (named into v k s)
+          told_cases : (b c d : Bool) → intact v.counts.dictionary l.text l.ends ≡ true → utf8 n ≡ b → held v l n ≡ c → has_room v.counts.dictionary l.text l.ends n ≡ d → fallen_ends v l ≡ false → Sees into v l (some n) (named_by into v k s)
           told_cases false c d i u h r f =
-              let nu : k.number ≡ 9 = ap (λ (x : Told). x.number) (rw (i, u) at e) in
-              record { number = rw (nu, f, u, any_into); live = λ p q. absurd (true≢false (rw u at q)); field = λ p. absurd (not_zero ((into && in_object v) && s.misplaced) 8 (rw nu at p)) }
+              let nu : (told_by k).number ≡ 9 = ap (λ (x : Told). x.number) (rw (i, u) at e) in
+              let z = refused_by into v k s 8 nu in
+              record { number = rw (z, f, u, any_into); live = λ p q. absurd (true≢false (rw u at q)); field = λ p. absurd (not_zero _ 8 (sym z ∙ p)) }
           told_cases true true d i u h r f =
               let z = rw (i, u, h) at e in
-              let nu : k.number ≡ 0 = ap (λ (x : Told). x.number) z in
-              let id : k.id ≡ id_of v l n = ap (λ (x : Told). x.id) z in
-              let ne : k.new ≡ false = ap (λ (x : Told). x.new) z in
-              record { number = rw (nu, f, u, h, any_into); live = λ p p'. ap (λ (g : Field). g.live) (field_held nu ne h id); field = λ p. field_held nu ne h id }
+              let kn : k ≡ Ok (record { id = id_of v l n; new = false }) = known_by k _ _ z in
+              held_cases kn h u f (into && misplaced_inner v l) refl
           told_cases true false true i u h r f =
               let z = rw (i, u, h, r) at e in
-              let nu : k.number ≡ 0 = ap (λ (x : Told). x.number) z in
-              let id : k.id ≡ id_of v l n = ap (λ (x : Told). x.id) z ∙ sym (fresh_id i h) in
-              let ne : k.new ≡ true = ap (λ (x : Told). x.new) z in
-              record { number = rw (nu, f, u, h, r, any_into); live = λ p p'. rw (nu, ne, h) (none_into into (is_open v)); field = λ p. rw (nu, ne, h, none_into into (is_open v), and-false (is_open v), and-false into, id) }
+              let kn : k ≡ Ok (record { id = field_names v.counts.dictionary; new = true }) = known_by k _ _ z in
+              fresh_cases kn i h r u f (into && misplaced_inner v l) refl
           told_cases true false false i u h r f =
-              let nu : k.number ≡ 12 = ap (λ (x : Told). x.number) (rw (i, u, h, r) at e) in
-              record { number = rw (nu, f, u, h, r, any_into); live = λ p p'. rw (nu, h) (none_into into (is_open v)); field = λ p. absurd (not_zero ((into && in_object v) && s.misplaced) 11 (rw nu at p)) }
-
--- ---- as the code has it
-
--- a call without a name
-pub sees_unnamed : {into : Bool} {v : View} {l : Storage} (named : Bool) (name : Name) {f : Field} → not named ≡ true → f ≡ no_field → Sees into v l (name_of named name) (record { field = f; number = 0 })
-unfolding name_of
-sees_unnamed {into} {v} {l} named name e q = rw (not-true named e, q) (sees_none into v l)
-
--- one with a name: its look-up, then the pass over the innermost entries
-pub sees_named : {into : Bool} {v : View} {l : Storage} (named : Bool) (name : Name) {any object : Bool} {k : Known} {s : Search} {size p n : ℕ} → not named ≡ false → broken_of v l ≡ false
-    → told_by k ≡ lookup v.counts.dictionary l.text l.ends name → size ≡ inner_size v
-    → Searches l.entries v.inner.entries v.counts.entries true (field_names v.counts.dictionary) size k.id s → any ≡ is_open v → object ≡ in_object v
-    → p ≡ cond ((into && any) && ((eqb k.number 0 && not k.new) && ltb s.place v.counts.entries)) s.place 0
-    → n ≡ cond (eqb k.number 1 || ((into && object) && s.misplaced)) 1 k.number
-    → Sees into v l (name_of named name)
-    (record {
-      field = record { id = k.id; place = p; new = k.new; live = (into && any) && ((eqb k.number 0 && not k.new) && ltb s.place v.counts.entries) };
-      number = n;
-    })
-unfolding name_of
-sees_named {into} {v} {l} named name {k = k} {s = s} e b t z q o j p n = rw (not-false named e, p, n, o, j) (sees_name into v l name k s b t (rw z at q))
+              let nu : (told_by k).number ≡ 12 = ap (λ (x : Told). x.number) (rw (i, u, h, r) at e) in
+              let z = refused_by into v k s 11 nu in
+              record {
+                number = rw (z, f, u, h, r, any_into);
+                live = λ p p'. rw (unlive_by into v k s 11 nu, h) (sym (none_into into (is_open v)));
+                field = λ p. absurd (not_zero _ 11 (sym z ∙ p));
+              }

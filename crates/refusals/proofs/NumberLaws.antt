@@ -1,99 +1,116 @@
 -- A call's number, from what the functions that it rests on answer.
 use mathlib.Core.Path.{◌≡◌, refl, sym, ◌∙◌, ap}
 use mathlib.Core.Bool.{Bool, true, false, cond, not, ◌&&◌, ◌||◌, or-false}
-use Prim.Native.Nat.{ℕ, ◌≤◌}
+use Prim.Native.Nat.{ℕ, ◌≤◌, ◌<◌}
 use mathlib.Core.List.{List}
-use lib.Dec.{eqb, ltb}
+use lib.Dec.{eqb, leb, ltb}
 use lib.ListN.{length}
-use borrow.Author.Tests.{eqb-true, eq-eqb, ne_eqb}
+use borrow.Author.Tests.{le-leb, le-ltb, lt-leb, lt-ltb, ltb-true, ltb-false}
+use native.Mathlib.Omega.{arith}
 use Rattle.encoding.specs.Rows.{first}
 use Rattle.metadata.specs.Names.{intact, field_names}
 use Rattle.container.specs.declared.Search.{Search}
-use Rattle.container.specs.Entries.{Searches, room_for}
+use Rattle.container.specs.Layout.{largest}
+use Rattle.container.specs.Entries.{Searches, ids_of, room_for}
 use Rattle.measure.specs.Measure.{whole_values}
 use Rattle.semantics.specs.declared.ParentEntry.TheVariants.{New, Replaced}
 use Rattle.semantics.specs.declared.View.{View}
-use Rattle.semantics.specs.Record.{Storage, close, roll_back, uniqueness, set_mark, return_to, is_open, in_object, in_list, inner_size, inner_data, parent_size}
-use Rattle.semantics.specs.Damage.{bad_floor, fallen_ends, misplaced_inner, misplaced_parent, uncounted, damaged_parent, misread}
+use Rattle.semantics.specs.Record.{Storage, close, roll_back, uniqueness, set_mark, return_to, is_open, in_object, inner_size, inner_data, inner_entries, parent_size, parent_entries}
+use Rattle.semantics.specs.Damage.{bad_floor, fallen_ends, misplaced_inner, misplaced_parent, orphaned, unrecorded, uncounted, damaged_parent, misread}
 use Rattle.semantics.specs.Table.{no_mark_free, not_set, number_of}
-use Rattle.refusals.specs.declared.numbers.Parent.{Parent}
-use Rattle.refusals.specs.Decide.{ClosesBy, ParentOf, Undoes, broken_of, close_by, finish_by}
-use Rattle.semantics.proofs.ViewLaws.{both}
+use Rattle.std.specs.Prelude.{Option as Optional, Some, None, Result, Ok, Err}
+use Rattle.semantics.specs.declared.refusal.Refusal.{Refusal}
+use Rattle.semantics.specs.declared.refusal.Refusal.TheVariants as refusal
+use Rattle.semantics.specs.Refusal.{number_told, refusal_number}
+use Rattle.semantics.proofs.RefusalLaws.{number_some}
+use Rattle.refusals.specs.Decide.{Backs, ParentOf, broken_of, childless_by, close_by, finish_by, late_of, misread_by, place_back, unlike_by}
 pub use Rattle.refusals.proofs.ViewLaws.{broken_number, broken_close, damaged_none, entries_within, inner_within, ends_read, range_within, found_before, none_before}
 
 -- ---- a roll back's parent
-module _ (v : View) (l : Storage) (h : v.inner.entries ≤ room_for (length l.entries)) (s : Search) where
+
+-- where an `<` does not hold
+not_ltb : (a b : ℕ) → leb b a ≡ not (ltb a b)
+not_ltb a b = go (ltb a b) refl
+  where
+    go : (t : Bool) → ltb a b ≡ t → leb b a ≡ not t
+    go true e = lt-leb b a (omega (arith, ltb-true))
+    go false e = le-leb b a (omega (arith, ltb-false))
+
+-- at the top level there is none
+pub parent_none : (v : View) (l : Storage) → v.counts.depth ≤ 1 → ParentOf v l (Ok None)
+unfolding damaged_parent
+parent_none v l h = let e = le-ltb 1 v.counts.depth h in record { number = rw e; place = λ z. rw e }
+
+module _ (v : View) (l : Storage) (below : 1 < v.counts.depth) (h : v.inner.entries ≤ room_for (length l.entries)) (s : Search) where
+  -- what decides on it, and its place
+  parent_by : {p : Optional ℕ} {b : Bool} (t : Bool) → b ≡ t
+      → b ≡ (misplaced_parent v l || (orphaned v.inner.parent v.parent.object v.siblings (parent_size v) (parent_entries v l) || unrecorded v.inner v.parent))
+      → p ≡ place_back v l v.inner.parent → ParentOf v l (cond t (Err refusal.Damaged) (Ok p))
+  unfolding damaged_parent
+  parent_by true e q r = record { number = rw (lt-ltb 1 v.counts.depth below, sym q ∙ e); place = λ z. absurd (omega arith) }
+  parent_by false e q r = record { number = rw (lt-ltb 1 v.counts.depth below, sym q ∙ e); place = λ z. ap Ok (rw (lt-ltb 1 v.counts.depth below) r) }
+
   -- of a new child: an object has an entry, a list an element
-  pub parent_new : v.inner.parent ≡ New → Searches l.entries v.parent.entries v.inner.entries true (field_names v.counts.dictionary) (parent_size v) 0 s
-      → ParentOf v l
-      (record {
-        place = 0;
-        damaged = (v.parent.object && (s.misplaced || not (ltb v.parent.entries v.inner.entries))) || (not v.parent.object && eqb v.siblings 0);
-      })
+  pub parent_new : {t : Bool} → v.inner.parent ≡ New → Searches l.entries v.parent.entries v.inner.entries true (field_names v.counts.dictionary) (parent_size v) 0 s
+      → childless_by v s ≡ t → ParentOf v l (cond t (Err refusal.Damaged) (Ok None))
   unfolding misplaced_parent
-  parent_new e q = record { damaged = rw (e, q.misplaced_any, range_within _ _ _ h, none_before l.entries v.parent.entries v.inner.entries) (go v.parent.object _ _ _); place = rw e }
+  parent_new {t} e q i =
+      parent_by t i (rw (e, q.misplaced_any, range_within _ _ _ h, not_ltb v.parent.entries v.inner.entries, none_before l.entries v.parent.entries v.inner.entries) (go v.parent.object _ _ _))
+      (rw e)
     where
       go : (o m : Bool) (n k : ℕ) → ((o && (m || eqb n 0)) || (not o && eqb k 0)) ≡ ((o && m) || (eqb (cond o n k) 0 || false))
       go true m n k = or-false (m || eqb n 0) ∙ sym (ap (λ t. m || t) (or-false (eqb n 0)))
       go false m n k = sym (or-false (eqb k 0))
 
   -- of a child that replaced another: the parent is an object, has an entry of its id, enough data and, under a mark, fewer undo records
-  pub parent_replaced : (id offset : ℕ) → v.inner.parent ≡ Replaced id offset
+  pub parent_replaced : {t : Bool} (id offset : ℕ) → v.inner.parent ≡ Replaced id offset
       → Searches l.entries v.parent.entries v.inner.entries true (field_names v.counts.dictionary) (parent_size v) id s
-      → ParentOf v l
-      (record {
-        place = s.place;
-        damaged =
-            not v.parent.object
-            || (s.misplaced
-            || ((not (ltb s.place v.inner.entries) || ltb (parent_size v) offset) || (ltb 0 v.parent.marks && eqb v.inner.undo v.parent.undo)));
-      })
+      → unlike_by v s offset ≡ t → ParentOf v l (cond t (Err refusal.Damaged) (Ok (Some s.place)))
   unfolding misplaced_parent
-  parent_replaced id offset e q =
-      record {
-        damaged = rw (e, q.misplaced_any, q.place_first, range_within _ _ _ h, found_before l.entries v.parent.entries v.inner.entries id) (go v.parent.object _ _ _);
-        place = rw (e, q.place_first, range_within _ _ _ h);
-      }
+  parent_replaced {t} id offset e q i =
+      parent_by t i
+      (rw (e, not_ltb s.place v.inner.entries, q.misplaced_any, q.place_first, range_within _ _ _ h, found_before l.entries v.parent.entries v.inner.entries id) (go v.parent.object _ _ _))
+      (rw (e, q.place_first, range_within _ _ _ h))
     where
       go : (o m r u : Bool) → (not o || (m || (r || u))) ≡ ((o && m) || ((not o || r) || u))
       go true m r u = refl
       go false m r u = refl
 
--- ---- the rows of a roll back, and its answer
-module _ (v : View) (l : Storage) (p : Parent) (n : ℕ) (unbroken : broken_of v l ≡ false) (parent : ParentOf v l p)
-    (by : n ≡ cond (ltb 1 v.counts.depth && p.damaged) 1 (cond v.counts.finished 2 (cond (not (is_open v)) 3 0))) where
-  rollback_rows : n ≡ number_of v l roll_back
-  unfolding first number_of damaged_parent
-  rollback_rows = rw (damaged_none v l (damaged_parent v l) unbroken, by, parent.damaged)
+-- ---- rows by what their tests are found to be
 
-  -- below the top level an entry of the parent gets its former offset again
-  pub undoes_place : (eqb n 0 && ltb 1 v.counts.depth) ≡ true → Undoes (number_of v l roll_back) v l (record { place = p.place; number = 0 })
-  undoes_place t = rw (← rollback_rows) (record { number = sym (eqb-true n 0 (both (eqb n 0) _ t).0); place = rw t parent.place })
+pub by_rows : {a b c m f n : Bool} (i j k : ℕ) → a ≡ m → b ≡ f → c ≡ n → cond m i (cond f j (cond n k 0)) ≡ cond a i (cond b j (cond c k 0))
+by_rows i j k p q r = rw (p, q, r)
 
-  -- else none does
-  pub undoes_none : (eqb n 0 && ltb 1 v.counts.depth) ≡ false → Undoes (number_of v l roll_back) v l (record { place = 0; number = n })
-  undoes_none t = rw (← rollback_rows) (record { number = refl; place = rw t })
+-- ---- the rows of a roll back
+
+-- number 1's own part, where it does not refuse
+pub sound_parent : (d : Bool) → ◌≡◌ {A = ℕ} 0 (cond d 1 0) → d ≡ false
+sound_parent true q = absurd (omega arith)
+sound_parent false q = refl
+
+-- what the code answers after `broken`
+pub rollback_rows : (v : View) (l : Storage) → broken_of v l ≡ false
+    → cond (damaged_parent v l) 1 (cond v.counts.finished 2 (cond (not (is_open v)) 3 0)) ≡ number_of v l roll_back
+unfolding first number_of
+rollback_rows v l e = rw (damaged_none v l (damaged_parent v l) e)
+
+-- where number 1's own part refuses it
+pub rollback_refused : {e f : Refusal} {r : Result (Optional ℕ) Refusal} (v : View) (l : Storage) → broken_of v l ≡ false → ParentOf v l (Err e) → r ≡ Err f → f ≡ e
+    → Backs (number_of v l roll_back) v l r
+rollback_refused {e} {f} {r} v l b p q i = go (damaged_parent v l) refl
+  where
+    go : (d : Bool) → damaged_parent v l ≡ d → Backs (number_of v l roll_back) v l r
+    go true h =
+        let n : ◌≡◌ {A = ℕ} 1 (number_of v l roll_back) = by_rows 1 2 3 h refl refl ∙ rollback_rows v l b in
+        record { number = ap number_told q ∙ (ap refusal_number i ∙ (p.number ∙ (rw h n))); place = λ z. absurd (omega arith) }
+    go false h = absurd (number_some e (p.number ∙ rw h))
 
 -- ---- the rows of a close
-
--- a list's data walked where row 2 holds
-pub late_walked : (v : View) (l : Storage) {b w : Bool} → b ≡ in_list v → (v.counts.finished && b) ≡ true → w ≡ whole_values v.elements (inner_data v l)
-    → not w ≡ (v.counts.finished && uncounted v l)
-unfolding uncounted
-late_walked v l i e w = let t = both v.counts.finished _ e in rw (t.0, sym i ∙ t.1, w)
-
-pub late_none : (v : View) (l : Storage) {b : Bool} → b ≡ in_list v → (v.counts.finished && b) ≡ false → false ≡ (v.counts.finished && uncounted v l)
-unfolding uncounted
-late_none v l {b} i e = go v.counts.finished (rw (← i) e)
-  where
-    go : (f : Bool) → (f && in_list v) ≡ false → false ≡ (f && (in_list v && not (whole_values v.elements (inner_data v l))))
-    go true e = rw e
-    go false e = refl
 
 -- what the code answers after `broken`
 pub close_rows : (v : View) (l : Storage) (s : Search) → broken_of v l ≡ false
     → Searches l.entries v.inner.entries v.counts.entries true (field_names v.counts.dictionary) (inner_size v) 0 s
-    → cond (not (intact v.counts.dictionary l.text l.ends) || ((in_object v && s.misplaced) || (v.counts.finished && uncounted v l))) 1
+    → cond (misread_by v l s) 1
     (cond v.counts.finished 2 (cond (not (is_open v)) 3 0))
     ≡ close_by v l
 unfolding first misplaced_inner uncounted
@@ -108,34 +125,18 @@ close_rows v l s e q =
     go false true n a m w = rw (or-false m)
     go false false n a m w = refl
 
--- its answer
-pub closes_by : (v : View) (l : Storage) (s : Search) {n : ℕ} → broken_of v l ≡ false
-    → Searches l.entries v.inner.entries v.counts.entries true (field_names v.counts.dictionary) (inner_size v) 0 s → n ≡ close_by v l
-    → ClosesBy v l (record { number = n; largest = s.largest })
-closes_by v l s e q n = record { number = n; largest_id = rw e (rw (range_within _ _ _ (entries_within v l e)) at q.largest_id) }
-
--- where number 1's part that every call asks holds
-pub closes_broken : (v : View) (l : Storage) → broken_of v l ≡ true → ClosesBy v l (record { number = 1; largest = 0 })
-closes_broken v l e = record { number = sym (broken_close v l e); largest_id = rw e }
+-- the largest id that the pass finds
+pub close_largest : (v : View) (l : Storage) (s : Search) → broken_of v l ≡ false
+    → Searches l.entries v.inner.entries v.counts.entries true (field_names v.counts.dictionary) (inner_size v) 0 s → s.largest ≡ largest (ids_of (inner_entries v l))
+close_largest v l s e q = rw (range_within _ _ _ (entries_within v l e)) at q.largest_id
 
 -- ---- the rows of a finish
 
--- 2, 4 and 15, as the code has them
-abbrev late_of : View → ℕ
-late_of v = cond v.counts.finished 2 (cond (is_open v) 4 (cond (eqb v.counts.value 0) 15 0))
-
-module _ (v : View) (l : Storage) (out : List ℕ) {n : ℕ} (unbroken : broken_of v l ≡ false) (by : n ≡ late_of v) where
-  -- none holds: the name ends are not asked
-  pub finish_none : n ≡ 0 → 0 ≡ finish_by v l out
-  unfolding first
-  finish_none e = let z : eqb (late_of v) 0 ≡ true = eq-eqb (late_of v) 0 (sym by ∙ e) in rw (z, unbroken)
-
-  -- one holds: they are
-  pub finish_late : (n ≡ 0 → ⊥) → cond (not (intact v.counts.dictionary l.text l.ends)) 1 n ≡ finish_by v l out
-  unfolding first
-  finish_late e =
-      let z : eqb (late_of v) 0 ≡ false = ne_eqb (late_of v) 0 (λ q. e (by ∙ q)) in
-      rw (z, ends_read v l unbroken, damaged_none v l (fallen_ends v l) unbroken, by)
+-- what the code answers after `broken`: the name ends are asked where one of 2, 4 and 15 holds
+pub finish_rows : (v : View) (l : Storage) (out : List ℕ) → broken_of v l ≡ false
+    → cond (eqb (late_of v) 0) 0 (cond (not (intact v.counts.dictionary l.text l.ends)) 1 (late_of v)) ≡ finish_by v l out
+unfolding first
+finish_rows v l out e = rw (e, ends_read v l e, damaged_none v l (fallen_ends v l) e)
 
 -- ---- the rows of a uniqueness mark to set
 

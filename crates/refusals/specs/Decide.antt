@@ -1,29 +1,39 @@
--- What each number function answers: a call's number by the rows of `semantics`, and then what its name means.
-use Rattle.std.specs.Prelude.{◌≡◌, Bool, false, cond, not, ◌&&◌, ◌||◌, List, [], ◌∷◌, ℕ, ◌+◌, eqb, leb, ltb, drop, length, take}
+-- What each call's decision answers: a call's number by the rows of `semantics`, and then what its name means.
+use Rattle.std.specs.Prelude.{◌≡◌, Bool, false, cond, not, ◌&&◌, ◌||◌, List, [], ◌∷◌, ℕ, ◌+◌, eqb, leb, ltb, drop, length, take, is_some, Option as Optional, Some, None, Result, Ok, Err}
+use Rattle.std.specs.Borrow.{Bor}
 use Rattle.std.proofs.Math.Option.{Option, none, some}
 use Rattle.encoding.specs.Rows.{Row, row, first}
-use Rattle.metadata.specs.Names.{Name}
+use Rattle.encoding.specs.Slices.{fits}
+use Rattle.metadata.specs.Names.{Name, intact}
 use Rattle.metadata.specs.Calls.{Told}
+use Rattle.container.specs.declared.Search.{Search}
 use Rattle.container.specs.Layout.{largest}
 use Rattle.container.specs.Entries.{ids_of, room_for, seek}
 use Rattle.semantics.specs.declared.ParentEntry.{ParentEntry}
 use Rattle.semantics.specs.declared.ParentEntry.TheVariants.{New, Replaced}
 use Rattle.semantics.specs.declared.View.{View}
-use Rattle.semantics.specs.Record.{Storage, close, finish, in_object, inner_entries, parent_size, parent_entries, unique_now}
-use Rattle.semantics.specs.Damage.{damaged, fallen_ends, misplaced_inner, over_used, unchained, bad_floor, misplaced_parent, orphaned, unrecorded}
+use Rattle.semantics.specs.declared.refusal.Refusal.{Refusal}
+use Rattle.semantics.specs.declared.refusal.Refusal.TheVariants as refusal
+use Rattle.semantics.specs.Refusal.{refusal_number, number_told}
+use Rattle.semantics.specs.Record.{Storage, storage_of, close, finish, is_open, in_object, inner_entries, parent_size, parent_entries, unique_now}
+use Rattle.semantics.specs.Damage.{damaged, fallen_ends, misplaced_inner, over_used, unchained, bad_floor, damaged_parent, uncounted}
 use Rattle.semantics.specs.Table.{rows, held, live_under, bad_name, misnamed, names_full, second_top, too_long}
 use Rattle.semantics.specs.Step.{id_for, place_for}
 use Rattle.refusals.specs.declared.Field.{Field}
-use Rattle.refusals.specs.declared.Decided.{Decided}
-use Rattle.refusals.specs.declared.Closing.{Closing}
-use Rattle.refusals.specs.declared.Undone.{Undone}
-use Rattle.refusals.specs.declared.numbers.Parent.{Parent}
+use Rattle.refusals.specs.declared.Seen.{Seen}
 use Rattle.refusals.specs.declared.lookup.Known.{Known}
-use Rattle.refusals.specs.declared.lookup.Named.{Named}
 
 -- document 01, "with or without a field name"
 unfoldable pub name_of : Bool → Name → Option Name
 name_of named name = cond named (some name) none
+
+abbrev pub name_in : Optional (Bor Name) → Option Name
+name_in None = none
+name_in (Some n) = some n.now
+
+-- the lent slices that a call sees
+abbrev pub storage_in : Seen → Storage
+storage_in s = storage_of s.value.now s.text.now s.ends.now s.entries.now s.undo.now
 
 -- ---- what a name means to a call
 
@@ -36,25 +46,25 @@ abbrev pub live_into : Bool → View → Storage → Option Name → Bool
 live_into into v l nm = into && live_under v l nm
 
 unfoldable pub field_of : Bool → View → Storage → Option Name → Field
-field_of into v l nm = record { id = id_for v l nm; place = cond (live_into into v l nm) (place_for v l nm) 0; new = is_new v l nm; live = live_into into v l nm }
+field_of into v l nm = record { id = id_for v l nm; place = cond (live_into into v l nm) (Some (place_for v l nm)) None; new = is_new v l nm }
 
 abbrev pub no_field : Field
-no_field = record { id = 0; place = 0; new = false; live = false }
+no_field = record { id = 0; place = None; new = false }
 
 -- ---- the answers: a number n and, where it is 0, what the call then needs
 
-pub record Decides (n : ℕ) (into : Bool) (v : View) (l : Storage) (nm : Option Name) (r : Decided) : Type 0 where
-  pub number : r.number ≡ n
-  pub field : r.field ≡ cond (eqb n 0) (field_of into v l nm) no_field
+pub record Decides (n : ℕ) (into : Bool) (v : View) (l : Storage) (nm : Option Name) (r : Result Field Refusal) : Type 0 where
+  pub number : number_told r ≡ n
+  pub field : n ≡ 0 → r ≡ Ok (field_of into v l nm)
 
--- the place of the parent's entry that gets its former offset again; 0 where there is none
-abbrev pub place_back : View → Storage → ParentEntry → ℕ
-place_back v l New = 0
-place_back v l (Replaced id offset) = v.parent.entries + seek id (parent_entries v l)
+-- the place of the parent's entry that gets its former offset again, if one does
+abbrev pub place_back : View → Storage → ParentEntry → Optional ℕ
+place_back v l New = None
+place_back v l (Replaced id offset) = Some (v.parent.entries + seek id (parent_entries v l))
 
-pub record Undoes (n : ℕ) (v : View) (l : Storage) (r : Undone) : Type 0 where
-  pub number : r.number ≡ n
-  pub place : r.place ≡ cond (eqb n 0 && ltb 1 v.counts.depth) (place_back v l v.inner.parent) 0
+pub record Backs (n : ℕ) (v : View) (l : Storage) (r : Result (Optional ℕ) Refusal) : Type 0 where
+  pub number : number_told r ≡ n
+  pub place : n ≡ 0 → r ≡ Ok (cond (ltb 1 v.counts.depth) (place_back v l v.inner.parent) None)
 
 -- number 1's part that every call asks
 abbrev pub broken_of : View → Storage → Bool
@@ -68,9 +78,9 @@ close_by v l =
     cond (eqb (first (drop 1 three)) 0) (cond (damaged v l (fallen_ends v l || misplaced_inner v l)) 1 0) (first three)
 
 -- and the largest id of the innermost's entries
-pub record ClosesBy (v : View) (l : Storage) (r : Closing) : Type 0 where
-  pub number : r.number ≡ close_by v l
-  pub largest_id : r.largest ≡ cond (broken_of v l) 0 (largest (ids_of (inner_entries v l)))
+pub record ClosesBy (v : View) (l : Storage) (r : Result ℕ Refusal) : Type 0 where
+  pub number : number_told r ≡ close_by v l
+  pub largest_id : close_by v l ≡ 0 → r ≡ Ok (largest (ids_of (inner_entries v l)))
 
 -- a finish's, by rows 1, 2, 4 and 15; where none of 2, 4 and 15 holds it is number 1 only by what every call asks: the
 -- dictionary asks the name ends itself before it is written
@@ -84,8 +94,39 @@ finish_by v l out =
 abbrev pub misnamed_by : Bool → View → Bool
 misnamed_by named v = cond named (not (in_object v)) (in_object v)
 
-abbrev pub told_by : Known → Told
-told_by k = record { number = k.number; id = k.id; new = k.new }
+abbrev pub told_by : Result Known Refusal → Told
+told_by (Ok k) = record { number = 0; id = k.id; new = k.new }
+told_by (Err r) = record { number = refusal_number r; id = 0; new = false }
+
+-- the id to be sought
+abbrev pub known_id : Result Known Refusal → ℕ
+known_id (Ok k) = k.id
+known_id (Err r) = 0
+
+-- the field of a name that has an id, and of what the pass over the entries finds of it
+abbrev pub live_by : Bool → View → Known → Search → Bool
+live_by into v k s = into && (is_open v && (not k.new && ltb s.place v.counts.entries))
+
+abbrev pub field_by : Bool → View → Search → Result Known Refusal → Result Field Refusal
+field_by into v s (Ok k) = Ok (record { id = k.id; place = cond (live_by into v k s) (Some s.place) None; new = k.new })
+field_by into v s (Err r) = Err r
+
+abbrev pub named_by : Bool → View → Result Known Refusal → Search → Result Field Refusal
+named_by into v k s = cond (into && (in_object v && s.misplaced)) (Err refusal.Damaged) (field_by into v s k)
+
+-- is the name live, of what is known of it
+abbrev pub live_told : Result Field Refusal → Bool
+live_told (Ok f) = is_some f.place
+live_told (Err r) = false
+
+-- the scalar's bytes, of what it gives: these or its own refusal
+abbrev pub size_told : Result ℕ Refusal → ℕ
+size_told (Ok n) = n
+size_told (Err r) = 0
+
+-- 2, 4 and 15
+abbrev pub late_of : View → ℕ
+late_of v = cond v.counts.finished 2 (cond (is_open v) 4 (cond (eqb v.counts.value 0) 15 0))
 
 -- 13, from whether the name is live
 abbrev pub full_by : Bool → View → Bool → ℕ → Bool
@@ -118,17 +159,32 @@ enter_rows v l nm into opens own size =
     ∷ (row 5 (into && misnamed nm v) ∷ (row 6 (into && second_top v) ∷ (row own (not (eqb own 0)) ∷ late_rows v l nm into opens size))))
 
 -- what is known of a name: the first of rows 1 (the call's own part), 9 and 12 that holds, and its field
-pub record Sees (into : Bool) (v : View) (l : Storage) (nm : Option Name) (r : Named) : Type 0 where
-  pub number : r.number ≡ cond (misread_into into v l nm) 1 (cond (bad_name nm) 9 (cond (names_full v l nm) 12 0))
-  pub live : misread_into into v l nm ≡ false → bad_name nm ≡ false → r.field.live ≡ live_into into v l nm
-  pub field : r.number ≡ 0 → r.field ≡ field_of into v l nm
+pub record Sees (into : Bool) (v : View) (l : Storage) (nm : Option Name) (r : Result Field Refusal) : Type 0 where
+  pub number : number_told r ≡ cond (misread_into into v l nm) 1 (cond (bad_name nm) 9 (cond (names_full v l nm) 12 0))
+  pub live : misread_into into v l nm ≡ false → bad_name nm ≡ false → live_told r ≡ live_into into v l nm
+  pub field : number_told r ≡ 0 → r ≡ Ok (field_of into v l nm)
 
-abbrev pub decided_of : ℕ → Field → Decided
-decided_of n g = cond (eqb n 0) (record { field = g; number = 0 }) (record { field = no_field; number = n })
+-- a parent that is damaged for its child, or the place
+pub record ParentOf (v : View) (l : Storage) (r : Result (Optional ℕ) Refusal) : Type 0 where
+  pub number : number_told r ≡ cond (damaged_parent v l) 1 0
+  pub place : number_told r ≡ 0 → r ≡ Ok (cond (ltb 1 v.counts.depth) (place_back v l v.inner.parent) None)
 
-pub record ParentOf (v : View) (l : Storage) (r : Parent) : Type 0 where
-  pub damaged : r.damaged ≡ (misplaced_parent v l || (orphaned v.inner.parent v.parent.object v.siblings (parent_size v) (parent_entries v l) || unrecorded v.inner v.parent))
-  pub place : r.place ≡ place_back v l v.inner.parent
+-- number n, and where it is 0 what is known
+pub record Passes (n : ℕ) (known r : Result Field Refusal) : Type 0 where
+  pub number : number_told r ≡ n
+  pub field : n ≡ 0 → r ≡ known
+
+-- a close's own part of number 1, from what the pass over the innermost entries finds
+abbrev pub misread_by : View → Storage → Search → Bool
+misread_by v l s = not (intact v.counts.dictionary l.text l.ends) || ((in_object v && s.misplaced) || (v.counts.finished && uncounted v l))
+
+-- the parent of a new child, and of one that replaced another, from what the pass over its entries finds
+abbrev pub childless_by : View → Search → Bool
+childless_by v s = (v.parent.object && (s.misplaced || leb v.inner.entries v.parent.entries)) || (not v.parent.object && eqb v.siblings 0)
+
+abbrev pub unlike_by : View → Search → ℕ → Bool
+unlike_by v s offset =
+    not v.parent.object || (s.misplaced || ((leb v.inner.entries s.place || ltb (parent_size v) offset) || (ltb 0 v.parent.marks && eqb v.inner.undo v.parent.undo)))
 
 -- those rows, from what is known of the name
 abbrev pub rows_by : ℕ → ℕ → Bool → Bool → Bool → Bool → Bool → Bool → Bool → Bool → ℕ
@@ -138,9 +194,9 @@ rows_by number own finished wrong second taken deep full unkept fit =
     (cond wrong 5
     (cond second 6
     (cond (not (eqb own 0)) own
-    (cond (eqb number 9) 9 (cond taken 10 (cond deep 11 (cond (eqb number 12) 12 (cond full 13 (cond unkept 23 (cond (not fit) 14 0)))))))))))
+    (cond (eqb number 9) 9 (cond taken 10 (cond deep 11 (cond (not (eqb number 0)) number (cond full 13 (cond unkept 23 (cond (not fit) 14 0)))))))))))
 
-abbrev pub enter_by : View → Named → Bool → Bool → Bool → ℕ → Bool → ℕ → ℕ → ℕ
-enter_by v f named into opens own fit lent undo =
-    rows_by f.number own v.counts.finished (into && misnamed_by named v) (into && second_top v) (unique_now v && f.field.live)
-    (opens && leb 64 v.counts.depth) (full_by into v f.field.live lent) (unkept_by v f.field.live undo) fit
+abbrev pub enter_by : View → Result Field Refusal → Bool → Bool → Bool → Result ℕ Refusal → ℕ → ℕ → ℕ → ℕ
+enter_by v f named into opens size room lent undo =
+    rows_by (number_told f) (number_told size) v.counts.finished (into && misnamed_by named v) (into && second_top v) (unique_now v && live_told f)
+    (opens && leb 64 v.counts.depth) (full_by into v (live_told f) lent) (unkept_by v (live_told f) undo) (fits v.counts.value (size_told size) room)

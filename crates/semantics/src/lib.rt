@@ -24,7 +24,10 @@ ghost use Rattle.std.specs.Prelude.{◌≡◌};
 ghost use Rattle.semantics.specs.Record.{good_floor, no_container};
 ghost use Rattle.semantics.specs.Run.{fresh_counts};
 
+mod refusal;
+
 use metadata::MetadataBuilder;
+pub use refusal::Refusal;
 
 // How a container's entry in its parent came about, read when the container is rolled back.
 #[derive(Clone, Copy)]

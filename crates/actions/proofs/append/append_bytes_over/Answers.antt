@@ -1,15 +1,15 @@
+use Rattle.std.proofs.lemmas.Result.{err_from_is_err_and}
 use Rattle.semantics.specs.Record.{bytes}
-use Rattle.refusals.proofs.RowLaws.{own_row}
-use Rattle.actions.proofs.AppendLaws.{append_stays, append_writes}
+use Rattle.actions.proofs.AppendLaws.{append_stays, append_writes, bytes_own_number, bytes_own_size}
 use Rattle.actions.proofs.append.append_bytes_over.Goals as goal
 
-pub returns-then-e-ne0 : goal.returns-then-e-ne0
-returns-then-e-ne0 c =
-    let a = c.args in
-    append_stays (bytes a.kind a.bytes.now) (own_row 8 c.row-n.ensures c.ill_formed.ensures) (λ _. c.bytes_size-size.ensures) c.enter_over-e.ensures c.if-e-ne0.true
+pub returns-in_err-e : goal.returns-in_err-e
+returns-in_err-e c =
+    let x = err_from_is_err_and c.from_residual.result c.from_residual.ensures.1 in
+    append_stays (bytes c.args.kind c.args.bytes.now) (bytes_own_number c.args.kind c.args.bytes.now c.bytes_own-size.ensures) (bytes_own_size c.args.kind c.args.bytes.now c.bytes_own-size.ensures) c.in_err-e.ensures x.1 x.2
 
 pub returns : goal.returns
 returns c =
-    let a = c.args in
-    append_writes (bytes a.kind a.bytes.now) (own_row 8 c.row-n.ensures c.ill_formed.ensures) (λ _. c.bytes_size-size.ensures) c.enter_over-e.ensures
-    c.if-e-ne0.false c.note.ensures.1 c.note.ensures.2 (λ _. c.write_bytes.ensures)
+    rw c.moved.ensures
+    (append_writes (bytes c.args.kind c.args.bytes.now) (bytes_own_number c.args.kind c.args.bytes.now c.bytes_own-size.ensures) (bytes_own_size c.args.kind c.args.bytes.now c.bytes_own-size.ensures) c.in_ok-e.ensures
+    c.note.ensures.1 c.note.ensures.2 c.write_bytes.ensures)

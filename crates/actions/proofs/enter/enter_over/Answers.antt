@@ -1,31 +1,54 @@
--- Refused, the record stays; else the name, the counts and the place are those of the definition.
+-- Refused, the record stays; else the name, the counts and what is put are those of the definition.
+use mathlib.Core.Path.{sym, ◌∙◌, ap}
 use native.Mathlib.Omega.{arith}
 use Rattle.semantics.specs.Record.{storage_of}
-use Rattle.actions.proofs.EnterLaws.{elements_bound, entered_refused, enters, enters_bounds}
+use Rattle.semantics.specs.Refusal.{number_told}
+use Rattle.refusals.specs.Decide.{name_in, size_told}
+use Rattle.actions.specs.Actions.{fresh_put, recorded_put}
+use Rattle.actions.proofs.EnterLaws.{depth_bound, elements_bound, entry_bound, enters, record_bound, size_whole, used_bound}
 use Rattle.actions.proofs.enter.enter_over.Goals as goal
 
-pub returns-then-d-ne0 : goal.returns-then-d-ne0
-returns-then-d-ne0 c =
+pub returns-in_err-size : goal.returns-in_err-size
+returns-in_err-size c =
     let a = c.args in
-    rw c.unentered.ensures (entered_refused a.opens a.size c.enter_number-d.ensures c.unique_now-u.ensures c.if-d-ne0.true)
+    let l = storage_of a.value.now a.text.now a.ends.now a.entries.now a.undo.now in
+    size_whole a.v l (name_in a.name) a.into a.opens (number_told a.size) (size_told a.size) c.in_err-size.field-0.0 c.in_ok-f.ensures (ap number_told c.in_err-size.was)
 
-pub counts_with-k-requires : goal.counts_with-k-requires
-counts_with-k-requires c =
+pub counts_with-requires-clause-size_bound : goal.counts_with-requires-clause-size_bound
+counts_with-requires-clause-size_bound c =
+    let a = c.args in
+    let l = storage_of a.value.now a.text.now a.ends.now a.entries.now a.undo.now in
+    rw (ap size_told c.in_ok-size.was) at (used_bound a.v l (name_in a.name) a.into a.opens (number_told a.size) (size_told a.size) c.in_ok-f.ensures)
+
+pub counts_with-requires-clause-entries_bound : goal.counts_with-requires-clause-entries_bound
+counts_with-requires-clause-entries_bound c e =
     let a = c.args in
     let l = storage_of a.value.now a.text.now a.ends.now a.entries.now a.undo.now in
     let g = c.well_formed.1.1.1.1.0 in
-    let r = c.well_formed.1.1.1.1.1.0 in
-    let b = enters_bounds a.v l a.named a.name.now a.into a.opens a.own a.size c.enter_number-d.ensures c.unique_now-u.ensures c.if-d-ne0.false (omega arith) (omega arith) in
-    record { size_bound = b.0; entries_bound = b.1.0; undo_bound = b.1.1.0; depth_bound = b.1.1.1 }
+    entry_bound a.v l (name_in a.name) a.into a.opens (number_told a.size) (size_told a.size) c.in_ok-f.ensures (omega arith) (ap fresh_put (sym c.put_of-put.ensures) ∙ e)
+
+pub counts_with-requires-clause-undo_bound : goal.counts_with-requires-clause-undo_bound
+counts_with-requires-clause-undo_bound c e =
+    let a = c.args in
+    let l = storage_of a.value.now a.text.now a.ends.now a.entries.now a.undo.now in
+    let g = c.well_formed.1.1.1.1.1.0 in
+    record_bound a.v l (name_in a.name) a.into a.opens (number_told a.size) (size_told a.size) c.in_ok-f.ensures (omega arith) (ap recorded_put (sym c.put_of-put.ensures) ∙ e)
+
+pub counts_with-requires-clause-depth_bound : goal.counts_with-requires-clause-depth_bound
+counts_with-requires-clause-depth_bound c =
+    let a = c.args in
+    let l = storage_of a.value.now a.text.now a.ends.now a.entries.now a.undo.now in
+    depth_bound a.v l (name_in a.name) a.into a.opens (number_told a.size) (size_told a.size) c.in_ok-f.ensures
 
 pub one_more-requires : goal.one_more-requires
-one_more-requires c =
+one_more-requires c e =
     let a = c.args in
-    elements_bound a.v (storage_of a.value.now a.text.now a.ends.now a.entries.now a.undo.now) a.named a.name.now a.into a.opens a.own a.size
-    c.enter_number-d.ensures c.unique_now-u.ensures c.if-d-ne0.false
+    let l = storage_of a.value.now a.text.now a.ends.now a.entries.now a.undo.now in
+    elements_bound a.v l (name_in a.name) a.into a.opens (number_told a.size) (size_told a.size) c.in_ok-f.ensures (sym c.takes_element.ensures ∙ e)
 
 pub returns : goal.returns
 returns c =
     let a = c.args in
-    enters a.v (storage_of a.value.now a.text.now a.ends.now a.entries.now a.undo.now) a.named a.name.now a.into a.opens a.own a.size
-    c.enter_number-d.ensures c.unique_now-u.ensures c.if-d-ne0.false c.with_name-next.ensures c.saturating_sub-at.ensures c.counts_with-k.ensures c.one_more.ensures c.place_of.ensures
+    let l = storage_of a.value.now a.text.now a.ends.now a.entries.now a.undo.now in
+    enters a.v l (name_in a.name) a.into a.opens (number_told a.size) (size_told a.size) c.in_ok-f.ensures c.put_of-put.ensures c.with_name-next.ensures c.saturating_sub.ensures
+    (rw (ap size_told c.in_ok-size.was) c.counts_with.ensures) (rw c.takes_element.ensures at c.one_more.ensures) c.unique_now-unique.ensures

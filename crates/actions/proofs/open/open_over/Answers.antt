@@ -1,8 +1,11 @@
+use Rattle.std.proofs.lemmas.Result.{err_from_is_err_and}
 use Rattle.actions.proofs.OpenLaws.{opens, opens_refused}
 use Rattle.actions.proofs.open.open_over.Goals as goal
 
-pub returns-then-e-ne0 : goal.returns-then-e-ne0
-returns-then-e-ne0 c = opens_refused c.args.object c.enter_over-e.ensures c.if-e-ne0.true
+pub returns-in_err-e : goal.returns-in_err-e
+returns-in_err-e c =
+    let x = err_from_is_err_and c.from_residual.result c.from_residual.ensures.1 in
+    opens_refused c.args.object c.in_err-e.ensures x.1 x.2
 
 pub returns : goal.returns
-returns c = opens c.args.object c.enter_over-e.ensures c.if-e-ne0.false c.note-p.ensures c.child.ensures
+returns c = opens c.args.object c.in_ok-e.ensures c.note-p.ensures c.child.ensures

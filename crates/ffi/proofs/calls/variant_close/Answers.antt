@@ -5,4 +5,4 @@ use Rattle.ffi.proofs.calls.variant_close.Goals as goal
 pub returns : goal.returns
 returns c =
     let a = c.args in
-    does_moved a.words.now a.marks.now (storage_of a.value.now a.text.now a.ends.now a.entries.now a.undo.now) close tt c.view_of-v.ensures c.close_over-r.ensures c.moved.ensures
+    does_moved a.words.now a.marks.now (storage_of a.value.now a.text.now a.ends.now a.entries.now a.undo.now) close c.close_over-r.result tt c.view_of-v.ensures c.close_over-r.ensures c.moved.ensures

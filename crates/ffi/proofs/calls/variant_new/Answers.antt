@@ -1,14 +1,20 @@
 -- The one row, and then the counts.
 use mathlib.Core.Path.{refl, sym, ◌∙◌}
+use Rattle.semantics.proofs.RefusalLaws.{number_some}
 use Rattle.ffi.proofs.calls.variant_new.Goals as goal
 
-pub returns-then-n-ne0 : goal.returns-then-n-ne0
-returns-then-n-ne0 c = record { number = c.make_number-n.ensures; made = λ e. absurd (c.if-n-ne0.true e); kept = λ e. refl }
+pub returns-in-Err : goal.returns-in-Err
+returns-in-Err c =
+    record {
+      number = c.number.ensures ∙ c.in-Err.ensures;
+      made = λ e. absurd (number_some c.in-Err.r (sym c.number.ensures ∙ e));
+      kept = λ e. refl;
+    }
 
 pub returns : goal.returns
 returns c =
     record {
-      number = sym c.if-n-ne0.false ∙ c.make_number-n.ensures;
+      number = c.in_default.ensures;
       made = λ e. rw c.fresh_counts-c.ensures at c.put_counts.ensures;
       kept = λ e. absurd (e refl);
     }

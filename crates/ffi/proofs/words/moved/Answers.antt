@@ -1,11 +1,9 @@
-use mathlib.Core.Path.{refl, sym}
+use mathlib.Core.Path.{refl}
 use Rattle.ffi.proofs.WordLaws.{puts_inner}
 use Rattle.ffi.proofs.words.moved.Goals as goal
 
-pub returns-then-n-ne0 : goal.returns-then-n-ne0
-returns-then-n-ne0 c = record { number = refl; put = λ e. absurd (c.if-n-ne0.true e); kept = λ f. refl }
+pub returns-in-Ok : goal.returns-in-Ok
+returns-in-Ok c = rw c.in-Ok.is (record { number = refl; put = puts_inner c.put_counts.ensures c.put_elements.ensures; kept = tt })
 
-pub returns : goal.returns
-returns c =
-    let i = c.if-n-ne0.false in
-    record { number = sym i; put = λ e. puts_inner c.put_counts.ensures c.put_elements.ensures; kept = λ f. absurd (f i) }
+pub returns-in-Err : goal.returns-in-Err
+returns-in-Err c = rw c.in-Err.is (record { number = c.number.ensures; put = tt; kept = refl })

@@ -1,5 +1,0 @@
--- Both tests are those of the definition.
-use Rattle.refusals.proofs.view.in_list.Goals as goal
-
-pub returns : goal.returns
-returns c = rw c.is_open.ensures

@@ -1,0 +1,33 @@
+-- The refusals of the writer's calls, by document 01's and 02's numbers.
+use Rattle.std.specs.Prelude.{ℕ, Result, Ok, Err}
+use Rattle.semantics.specs.declared.refusal.Refusal.{Refusal}
+use Rattle.semantics.specs.declared.refusal.Refusal.TheVariants as refusal
+
+-- the table's "No."; of document 02, A2: "refuses, with 17", A4: "with 18", A9: "with 22" and "with 23", A10: "with 24"
+abbrev pub refusal_number : Refusal → ℕ
+refusal_number refusal.Damaged = 1
+refusal_number refusal.Finished = 2
+refusal_number refusal.NotOpen = 3
+refusal_number refusal.StillOpen = 4
+refusal_number refusal.Misnamed = 5
+refusal_number refusal.SecondTop = 6
+refusal_number refusal.OutOfRange = 7
+refusal_number refusal.IllFormed = 8
+refusal_number refusal.BadName = 9
+refusal_number refusal.Taken = 10
+refusal_number refusal.TooDeep = 11
+refusal_number refusal.NamesFull = 12
+refusal_number refusal.EntriesFull = 13
+refusal_number refusal.NoRoom = 14
+refusal_number refusal.NoValue = 15
+refusal_number refusal.OutputFull = 16
+refusal_number refusal.OutOfCalendar = 17
+refusal_number refusal.NotPacked = 18
+refusal_number refusal.NoMark = 22
+refusal_number refusal.UndoFull = 23
+refusal_number refusal.BadFloor = 24
+
+-- "Every refusal returns its number only"; 0 where the call is carried out
+abbrev pub number_told : {A : Type 0} → Result A Refusal → ℕ
+number_told (Ok x) = 0
+number_told (Err r) = refusal_number r

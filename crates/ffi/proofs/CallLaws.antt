@@ -2,13 +2,17 @@
 use mathlib.Core.Path.{◌≡◌, refl, sym, ◌∙◌, ap, subst}
 use mathlib.Core.Bool.{Bool, true, false}
 use mathlib.Core.List.{List}
-use mathlib.Core.Option.{Option}
+use mathlib.Core.Option.{Option, some}
+use Rattle.std.specs.Prelude.{Result, Ok, Err, IsOk}
+use Rattle.semantics.specs.declared.refusal.Refusal.{Refusal}
+use Rattle.semantics.specs.Refusal.{number_told, refusal_number}
+use Rattle.semantics.proofs.RefusalLaws.{number_some}
 use Prim.Native.Nat.{ℕ, ◌+◌, ◌-◌, ◌<◌, ◌≤◌}
 use native.Mathlib.Omega.{arith}
-use lib.Dec.{eqb, leb}
+use lib.Dec.{leb}
 use lib.ListN.{length, set}
 use lib.Seq.{get_or-set_same}
-use borrow.Author.Tests.{eqb-true, eqb-false, eq-eqb, ne_eqb, leb-true, ltb-true, lt-ltb, not-false}
+use borrow.Author.Tests.{eq-eqb, ne_eqb, leb-true, ltb-true, lt-ltb, not-false}
 use Rattle.encoding.specs.Rows.{first}
 use Rattle.encoding.specs.Slices.{Placed, Writes}
 use Rattle.value.specs.Scalar.{scalar_bytes}
@@ -21,7 +25,8 @@ use Rattle.semantics.specs.declared.View.{View}
 use Rattle.semantics.specs.Record.{Storage, Call, Scalars, append, register, scalar_of, open_in, close, roll_back, uniqueness, set_mark, return_to, finish, chained, container_at, good_floor, is_open, mark_at, no_container, no_mark, slot_of, view_of, storage_of, table_size}
 use Rattle.semantics.specs.Damage.{damaged, over_used, unchained}
 use Rattle.semantics.specs.Table.{scalar_rows, number_of}
-use Rattle.refusals.specs.Decide.{enter_rows, name_of}
+use Rattle.refusals.specs.Decide.{enter_rows, size_told}
+use Rattle.refusals.proofs.RowLaws.{own_zero}
 use Rattle.semantics.specs.Run.{Fresh, fresh_counts}
 use Rattle.semantics.specs.Step.{step, after, containers_after, mark_to, marks_after, put_mark, returned, with_marks}
 use Rattle.semantics.proofs.Demand1.{none_at}
@@ -30,16 +35,17 @@ use Rattle.refusals.proofs.ViewLaws.{neither}
 use Rattle.actions.specs.declared.Moved.{Moved}
 use Rattle.actions.specs.declared.Marked.{Marked}
 use Rattle.actions.specs.declared.Returned.{Returned}
-use Rattle.actions.specs.declared.UniqueSet.{UniqueSet}
+use Rattle.actions.specs.declared.Opened.{Opened}
 use Rattle.actions.specs.declared.Ended.{Ended}
 use Rattle.actions.specs.declared.enter.Entered.{Entered}
-use Rattle.actions.specs.Actions.{EntersBy, Leaves, Returns, SetsMark, SetsUnique, Ends, child_of, elements_put, entries_put, parent_put, undo_put}
+use Rattle.actions.specs.Actions.{EntersBy, Leaves, Returns, SetsMark, SetsUnique, Ends, child_of, elements_put, entries_put, moved_by, parent_put, undo_put}
 use Rattle.actions.proofs.EnterLaws.{enter_clears}
 use Rattle.actions.proofs.AppendLaws.{append_stays, append_writes}
 use Rattle.actions.proofs.MarkLaws.{return_reachable}
-use Rattle.actions.proofs.OpenLaws.{opens, opens_refused, registers}
+use Rattle.actions.proofs.OpenLaws.{opens, opens_refused, registers, registers_refused}
 use Rattle.actions.proofs.UniqueLaws.{unique_open}
 use Rattle.actions.proofs.ElementLaws.{Stays, elements_left_lem, elements_opened}
+use Rattle.ffi.specs.Scalars.{OwnBytes, size_by}
 use Rattle.ffi.specs.Words.{builder_of, container_left, containers_of, counts_of, elements_of, inner_left, state_of, words_left, DoesWords, EntersWords, FinishesWords, Puts, PutsContainer, PutsCounts, PutsElements, PutsInner}
 use Rattle.ffi.proofs.WordLaws.{containers_length, elements_length}
 
@@ -85,61 +91,104 @@ still ws ms l set_mark s = absurd s
 still ws ms l (return_to j) s = absurd s
 still ws ms l (finish out) s = absurd s
 
-pub does_moved : (ws ms : List ℕ) (l : Storage) (c : Call) {v : View} {r : Moved} {e : Storage} {n : ℕ} {us : List ℕ} → Stays c → v ≡ view_of (builder_of ws) ms → Leaves v l c r e → Puts r n ws us
+-- what a call that is carried out gives
+told : {A : Type 0} → A → Result A Refusal → A
+told m (Ok r) = r
+told m (Err e) = m
+
+pub does_moved : (ws ms : List ℕ) (l : Storage) (c : Call) {v : View} (r : Result Moved Refusal) {e : Storage} {n : ℕ} {us : List ℕ} → Stays c → v ≡ view_of (builder_of ws) ms → Leaves v l c r e → Puts r n ws us
     → DoesWords n ws us ms ms l e c
-unfolding after
-does_moved ws ms l c {v} {r} {e} {n} {us} s p q w = go (eqb (number_of (view_of (builder_of ws) ms) l c) 0) refl (rw p at q)
-  where
-    go : (t : Bool) → eqb (number_of (view_of (builder_of ws) ms) l c) 0 ≡ t → Leaves (view_of (builder_of ws) ms) l c r e → DoesWords n ws us ms ms l e c
-    go true z q =
-        let g = eqb-true (number_of (view_of (builder_of ws) ms) l c) 0 z in
-        let h : r.number ≡ 0 = q.number ∙ g in
-        let k = still ws ms l c s in
-        rw (w.number ∙ h)
-        (carried ws ms l c g (rw (k.mark, k.containers) ((w.put h).builder ∙ (rw (elements_left_lem (builder_of ws) ms l c s q, q.counts, z) refl))) (sym k.marks) (rw k.mark (q.storage ∙ rw z refl))
-        (rw (k.words (after (state_of ws ms l) c).builder, k.mark) ((w.put h).words ∙ (rw (q.counts, q.elements, z) refl))))
-    go false z q =
-        let h : r.number ≡ 0 → ⊥ = λ g. eqb-false (number_of (view_of (builder_of ws) ms) l c) 0 z (sym q.number ∙ g) in
-        let k : e ≡ l = q.storage ∙ rw z refl in
-        rw (w.kept h, k) (refused ws ms l c (w.number ∙ q.number) (λ g. h (sym w.number ∙ g)))
+unfolding after told
+does_moved ws ms l c (Ok m) {e} s p q w =
+    let q' = rw p at q in
+    let z = sym q'.number in
+    let n = eq-eqb (number_of (view_of (builder_of ws) ms) l c) 0 z in
+    let h = ap (told m) (q'.moved z) in
+    let k = still ws ms l c s in
+    rw w.number
+    (carried ws ms l c z (rw (k.mark, k.containers) (w.put.builder ∙ (rw (elements_left_lem (builder_of ws) ms l c s h, h) refl))) (sym k.marks) (rw k.mark (q'.storage ∙ rw n refl))
+    (rw (k.words (after (state_of ws ms l) c).builder, k.mark) (w.put.words ∙ (rw h refl))))
+does_moved ws ms l c (Err f) {e} s p q w =
+    let q' = rw p at q in
+    let n = ne_eqb (number_of (view_of (builder_of ws) ms) l c) 0 (λ z. number_some f (q'.number ∙ z)) in
+    let k : e ≡ l = q'.storage ∙ rw n refl in
+    rw (w.kept, k) (refused ws ms l c (w.number ∙ q'.number) (λ g. number_some f (sym w.number ∙ g)))
 
 -- ---- what is entered
 
--- the counts and the elements are put back where the number is 0
-abbrev Put : Entered → List ℕ → List ℕ → Type 0
-Put e ws us = Puts (record { counts = e.counts; elements = e.elements; number = e.number }) e.number ws us
+abbrev moved_of : Result Entered Refusal → Result Moved Refusal
+moved_of (Ok e) = Ok (moved_by e)
+moved_of (Err f) = Err f
 
 -- of a call that opens nothing, so that as many containers are open as were
-puts_entered : {ws us ms : List ℕ} {l : Storage} {nm : Option Name} {into : Bool} {own size : ℕ} {e : Entered} {text ends : List ℕ} → EntersWords ws us ms l nm into false own size e text ends → Put e ws us
-puts_entered {ws} {us} {e = e} w =
-    record {
-      number = refl;
-      put = λ z. let n = eq-eqb _ 0 (sym w.enters.number ∙ z) in let d : e.counts.depth ≡ (counts_of ws).depth = rw (w.enters.counts, n) in subst (λ n. PutsInner ws us e.counts n e.elements) (sym d) (w.put z);
-      kept = w.kept;
-    }
+puts_entered : {ws us ms : List ℕ} {l : Storage} {nm : Option Name} {into : Bool} {own size : ℕ} (r : Result Entered Refusal) {text ends : List ℕ} → EntersWords ws us ms l nm into false own size r text ends
+    → Puts (moved_of r) (number_told r) ws us
+puts_entered {ws} {us} (Ok e) w =
+    let d : e.counts.depth ≡ (counts_of ws).depth = rw w.enters.entered.counts in
+    record { number = refl; put = subst (λ n. PutsInner ws us e.counts n e.elements) (sym d) w.put; kept = tt }
+puts_entered (Err f) w = record { number = refl; put = tt; kept = w.kept }
 
-module _ (ws ms : List ℕ) (l : Storage) (nm : Option Name) (into opens : Bool) (own size : ℕ) {v : View} {e : Entered} {text ends : List ℕ} (p : v ≡ view_of (builder_of ws) ms)
-    (a : EntersBy v l nm into opens size (first (enter_rows v l nm into opens own size)) e text ends) where
-  pub enters_refused : (e.number ≡ 0 → ⊥) → EntersWords ws ws ms l nm into opens own size e text ends
-  enters_refused z = record { enters = rw p at a; put = λ h. absurd (z h); kept = λ f. refl }
+module _ (ws ms : List ℕ) (l : Storage) (nm : Option Name) (into opens : Bool) (own size : ℕ) {v : View} {text ends : List ℕ} (p : v ≡ view_of (builder_of ws) ms) where
+  pub enters_refused : {e f : Refusal} {r : Result Entered Refusal} → EntersBy v l nm into opens size (first (enter_rows v l nm into opens own size)) (Err e) text ends → r ≡ Err f → f ≡ e
+      → EntersWords ws ws ms l nm into opens own size r text ends
+  enters_refused a q i = rw (q, i) (record { enters = rw p at a; put = tt; kept = refl })
 
-  pub enters_done : {us : List ℕ} → e.number ≡ 0 → PutsInner ws us e.counts (counts_of ws).depth e.elements → EntersWords ws us ms l nm into opens own size e text ends
-  enters_done z w = record { enters = rw p at a; put = λ h. w; kept = λ f. absurd (f z) }
+  pub enters_done : {e : Entered} {us : List ℕ} → EntersBy v l nm into opens size (first (enter_rows v l nm into opens own size)) (Ok e) text ends → PutsInner ws us e.counts (counts_of ws).depth e.elements
+      → EntersWords ws us ms l nm into opens own size (Ok e) text ends
+  enters_done a w = record { enters = rw p at a; put = w; kept = tt }
 
 -- an append, from what is entered
-module _ (ws ms : List ℕ) (l : Storage) (nm : Option Name) (x : Scalars) {own size : ℕ} {e : Entered} {us text ends : List ℕ} (o : own ≡ first (scalar_rows x))
-    (s : own ≡ 0 → size ≡ length (scalar_bytes (scalar_of x))) (w : EntersWords ws us ms l nm true false own size e text ends) where
-  pub does_refused : (e.number ≡ 0 → ⊥) → DoesWords e.number ws us ms ms l (storage_of l.value text ends l.entries l.undo) (append nm x)
-  does_refused z = does_moved ws ms l (append nm x) tt refl (append_stays x o s w.enters z) (puts_entered w)
+module _ (ws ms : List ℕ) (l : Storage) (nm : Option Name) (x : Scalars) {own size : ℕ} {us text ends : List ℕ} (o : own ≡ first (scalar_rows x))
+    (s : own ≡ 0 → size ≡ length (scalar_bytes (scalar_of x))) where
+  pub does_refused : {f : Refusal} → EntersWords ws us ms l nm true false own size (Err f) text ends → DoesWords (refusal_number f) ws us ms ms l (storage_of l.value text ends l.entries l.undo) (append nm x)
+  does_refused {f} w = does_moved ws ms l (append nm x) (Err f) tt refl (append_stays x o s w.enters refl refl) (puts_entered (Err f) w)
 
-  pub does_appended : {p : Placed} {value entries undo : List ℕ} → e.number ≡ 0 → entries ≡ entries_put e l.entries → undo ≡ undo_put e l.entries l.undo
-      → (own ≡ 0 → Writes (counts_of ws).value (scalar_bytes (scalar_of x)) l.value p value) → DoesWords 0 ws us ms ms l (storage_of value text ends entries undo) (append nm x)
-  does_appended z g i b = rw z at (does_moved ws ms l (append nm x) tt refl (append_writes x o s w.enters z g i b) (puts_entered w))
+  pub does_appended : {e : Entered} {p : Placed} {value entries undo : List ℕ} → EntersWords ws us ms l nm true false own size (Ok e) text ends → entries ≡ entries_put e l.entries → undo ≡ undo_put e l.entries l.undo
+      → Writes (counts_of ws).value (scalar_bytes (scalar_of x)) l.value p value → DoesWords 0 ws us ms ms l (storage_of value text ends entries undo) (append nm x)
+  does_appended {e} {p} w g i b = does_moved ws ms l (append nm x) (Ok (moved_by e)) tt refl (append_writes x o s w.enters {p = p} g i b) (puts_entered (Ok e) w)
+
+-- one whose bytes are those stored for a value, or that has its own refusal
+size_number : {A : Type 0} (stored : A → List ℕ) (x : Result A Refusal) → number_told (size_by stored x) ≡ number_told x
+size_number stored (Ok x) = refl
+size_number stored (Err e) = refl
+
+size_bytes : {A : Type 0} (stored : A → List ℕ) {s : Scalars} (x : Result A Refusal) → OwnBytes stored s x → number_told (size_by stored x) ≡ 0
+    → size_told (size_by stored x) ≡ length (scalar_bytes (scalar_of s))
+size_bytes stored (Ok x) t z = ap length (sym (t.bytes x refl))
+size_bytes stored (Err e) t z = absurd (number_some e z)
+
+module _ {A : Type 0} (stored : A → List ℕ) (x : Result A Refusal) {size : Result ℕ Refusal} (h : size ≡ size_by stored x) where
+  own_number : {s : Scalars} → OwnBytes stored s x → number_told size ≡ first (scalar_rows s)
+  own_number t = rw (h, size_number stored x) t.number
+
+  own_size : {s : Scalars} → OwnBytes stored s x → number_told size ≡ 0 → size_told size ≡ length (scalar_bytes (scalar_of s))
+  own_size t z = rw h (size_bytes stored x t (rw h at z))
+
+  module _ (ws ms : List ℕ) (l : Storage) (nm : Option Name) {us text ends : List ℕ} where
+    -- one that is entered is not refused
+    pub own_whole : {e : Entered} → EntersWords ws us ms l nm true false (number_told size) (size_told size) (Ok e) text ends → IsOk x
+    own_whole w = go x (sym (size_number stored x) ∙ (rw h at (own_zero (view_of (builder_of ws) ms) l nm true false (number_told size) (size_told size) (sym w.enters.number))))
+      where
+        go : (r : Result A Refusal) → number_told r ≡ 0 → IsOk r
+        go (Ok y) z = refl
+        go (Err f) z = absurd (number_some f z)
+
+    pub own_refused : {s : Scalars} {f : Refusal} → OwnBytes stored s x → EntersWords ws us ms l nm true false (number_told size) (size_told size) (Err f) text ends
+        → DoesWords (refusal_number f) ws us ms ms l (storage_of l.value text ends l.entries l.undo) (append nm s)
+    own_refused {s} t w = does_refused ws ms l nm s (own_number t) (own_size t) w
+
+    pub own_appended : {s : Scalars} {e : Entered} {y : A} {p : Placed} {value entries undo : List ℕ} → OwnBytes stored s x → EntersWords ws us ms l nm true false (number_told size) (size_told size) (Ok e) text ends
+        → entries ≡ entries_put e l.entries → undo ≡ undo_put e l.entries l.undo → x ≡ Ok y → Writes (counts_of ws).value (stored y) l.value p value
+        → DoesWords 0 ws us ms ms l (storage_of value text ends entries undo) (append nm s)
+    own_appended {s} {y = y} {p = p} t w g i q b = does_appended ws ms l nm s (own_number t) (own_size t) {p = p} w g i (rw (t.bytes y q) b)
 
 -- a name registered
-pub does_registered : (ws ms : List ℕ) (l : Storage) (name : Name) {e : Entered} {us text ends : List ℕ} → EntersWords ws us ms l (name_of true name) false false 0 0 e text ends
-    → DoesWords e.number ws us ms ms l (storage_of l.value text ends l.entries l.undo) (register name)
-does_registered ws ms l name w = does_moved ws ms l (register name) tt refl (registers name w.enters) (puts_entered w)
+module _ (ws ms : List ℕ) (l : Storage) (name : Name) {us text ends : List ℕ} where
+  pub register_refused : {f : Refusal} → EntersWords ws us ms l (some name) false false 0 0 (Err f) text ends → DoesWords (refusal_number f) ws us ms ms l (storage_of l.value text ends l.entries l.undo) (register name)
+  register_refused {f} w = does_moved ws ms l (register name) (Err f) tt refl (registers_refused name w.enters refl refl) (puts_entered (Err f) w)
+
+  pub does_registered : {e : Entered} → EntersWords ws us ms l (some name) false false 0 0 (Ok e) text ends → DoesWords 0 ws us ms ms l (storage_of l.value text ends l.entries l.undo) (register name)
+  does_registered {e} w = does_moved ws ms l (register name) (Ok (moved_by e)) tt refl (registers name w.enters) (puts_entered (Ok e) w)
 
 -- ---- a container put
 
@@ -158,36 +207,40 @@ container_put_lem : (ks : List Container) (d : ℕ) (k : Container) → length k
 container_put_lem ks d k e h = get_or-set_same ks d k no_container (omega arith)
 
 -- an open, from what is entered
-module _ (ws ms : List ℕ) (l : Storage) (nm : Option Name) (object : Bool) {e : Entered} {us text ends : List ℕ} (w : EntersWords ws us ms l nm true true 0 0 e text ends) where
-  pub opens_stays : (e.number ≡ 0 → ⊥) → DoesWords e.number ws us ms ms l (storage_of l.value text ends l.entries l.undo) (open_in nm object)
-  opens_stays z =
-      let q = opens_refused object w.enters z in
-      let n = ne_eqb (number_of (view_of (builder_of ws) ms) l (open_in nm object)) 0 (λ f. z (q.number ∙ f)) in
+module _ (ws ms : List ℕ) (l : Storage) (nm : Option Name) (object : Bool) {us text ends : List ℕ} where
+  pub opens_stays : {f : Refusal} → EntersWords ws us ms l nm true true 0 0 (Err f) text ends → DoesWords (refusal_number f) ws us ms ms l (storage_of l.value text ends l.entries l.undo) (open_in nm object)
+  opens_stays {f} w =
+      let q = opens_refused object w.enters refl refl in
+      let n = ne_eqb (number_of (view_of (builder_of ws) ms) l (open_in nm object)) 0 (λ z. number_some f (q.number ∙ z)) in
       let k : storage_of l.value text ends l.entries l.undo ≡ l = q.storage ∙ rw n refl in
-      rw (w.kept z, k) (refused ws ms l (open_in nm object) q.number z)
+      rw (w.kept, k) (refused ws ms l (open_in nm object) q.number (number_some f))
 
-  pub opens_deep : e.number ≡ 0 → (counts_of ws).depth < 64
-  opens_deep z = (enter_clears (view_of (builder_of ws) ms) l nm true true 0 0 (sym w.enters.number ∙ z)).depth refl
+  pub opens_deep : {e : Entered} → EntersWords ws us ms l nm true true 0 0 (Ok e) text ends → (counts_of ws).depth < 64
+  opens_deep w = (enter_clears (view_of (builder_of ws) ms) l nm true true 0 0 (sym w.enters.number)).depth refl
 
-  pub opens_done : {entries undo xs ys : List ℕ} {p : ParentEntry} {k : Container} → e.number ≡ 0
+  pub opens_done : {e : Entered} {entries undo xs ys : List ℕ} {p : ParentEntry} {k : Container} → EntersWords ws us ms l nm true true 0 0 (Ok e) text ends
       → (p ≡ parent_put e l.entries) × (entries ≡ entries_put e l.entries) × (undo ≡ undo_put e l.entries l.undo) → k ≡ child_of (counts_of ws) e p object
       → PutsContainer us xs (counts_of ws).depth k → PutsElements xs ys ((counts_of ws).depth + 1) 0 → DoesWords 0 ws ys ms ms l (storage_of l.value text ends entries undo) (open_in nm object)
-  unfolding after
-  opens_done {xs = xs} {ys = ys} {k = k} z g c d y =
+  unfolding after told
+  opens_done {e} {xs = xs} {ys = ys} {k = k} w g c d y =
       let d' = (counts_of ws).depth in
-      let x = w.put z in
+      let x = w.put in
       let f = containers_of_lem us x.builder in
       let i = elements_of_lem us x.builder in
       let h = counts_of_lem us x.builder in
-      let q = opens object w.enters z g c in
+      let q = opens object w.enters g c in
       let n = sym q.number in
       let t = eq-eqb (number_of (view_of (builder_of ws) ms) l (open_in nm object)) 0 n in
-      let m = container_put_lem (containers_of us) d' k (containers_length us) (opens_deep z) in
+      let v = ap (told (record { counts = e.counts; elements = e.elements; container = k })) (q.opened n) in
+      let elements = ap (λ (o : Opened). o.elements) v in
+      let container = ap (λ (o : Opened). o.container) v in
+      let counts = ap (λ (o : Opened). o.counts) v in
+      let m = container_put_lem (containers_of us) d' k (containers_length us) (opens_deep w) in
       let s : builder_of ys ≡ record { containers = set (containers_of us) d' k; elements = elements_put (elements_of us) (d' + 1) 0; counts = counts_of us }
       = y.builder ∙ rw (containers_of_lem xs d.builder, elements_of_lem xs d.builder, counts_of_lem xs d.builder) refl in
-      let same : builder_of ys ≡ (after (state_of ws ms l) (open_in nm object)).builder = s ∙ rw (f, i, h, q.elements, q.container, q.counts, t, elements_opened (builder_of ws) ms) refl in
+      let same : builder_of ys ≡ (after (state_of ws ms l) (open_in nm object)).builder = s ∙ rw (f, i, h, elements, container, counts, elements_opened (builder_of ws) ms) refl in
       carried ws ms l (open_in nm object) n same refl (q.storage ∙ rw t refl)
-      ((y.words ∙ rw (d.words, containers_of_lem ys s, counts_of_lem ys s, m, h, x.words, q.elements, t) refl) ∙ ap (words_left ws ms (open_in nm object)) same)
+      ((y.words ∙ rw (d.words, containers_of_lem ys s, counts_of_lem ys s, m, h, x.words, elements) refl) ∙ ap (words_left ws ms (open_in nm object)) same)
 
 -- of a call that puts the innermost container and no other word
 module _ (ws ms : List ℕ) (l : Storage) (c : Call) (m : (b : Builder) → words_left ws ms c b ≡ container_left ws ((counts_of ws).depth - 1) b) where
@@ -198,21 +251,23 @@ module _ (ws ms : List ℕ) (l : Storage) (c : Call) (m : (b : Builder) → word
       let h = container_put_lem (containers_of ws) ((counts_of ws).depth - 1) k (containers_length ws) (omega (arith, o.0, o.1)) in
       carried ws ms l c n (rw e y.builder) (rw e refl) (rw e refl) (rw (m (after (state_of ws ms l) c).builder, e, h) y.words)
 
+-- a call that leaves the words where it is refused
+pub stays_refused : (ws ms : List ℕ) (l : Storage) (c : Call) {v : View} (f : Refusal) → v ≡ view_of (builder_of ws) ms → refusal_number f ≡ number_of v l c → DoesWords (refusal_number f) ws ws ms ms l l c
+stays_refused ws ms l c f p q = refused ws ms l c (rw p at q) (number_some f)
+
 -- the uniqueness mark
-module _ (ws ms : List ℕ) (l : Storage) (u : Bool) {v : View} {r : UniqueSet} (p : v ≡ view_of (builder_of ws) ms) (q : SetsUnique v l u r) where
-  pub unique_refused : (r.number ≡ 0 → ⊥) → DoesWords r.number ws ws ms ms l l (uniqueness u)
-  unique_refused h = refused ws ms l (uniqueness u) (rw p at q.number) h
-
+module _ (ws ms : List ℕ) (l : Storage) (u : Bool) {v : View} {k : Container} (p : v ≡ view_of (builder_of ws) ms) (q : SetsUnique v l u (Ok k)) where
   -- the innermost is one of the 64
-  pub unique_inside : r.number ≡ 0 → (0 < v.counts.depth) × (v.counts.depth ≤ 64)
-  unique_inside h = rw p (unique_open (builder_of ws) ms l u (sym (rw p at q.number) ∙ h))
+  pub unique_inside : (0 < v.counts.depth) × (v.counts.depth ≤ 64)
+  unique_inside = rw p (unique_open (builder_of ws) ms l u (sym (rw p at q.number)))
 
-  pub unique_done : {us : List ℕ} → r.number ≡ 0 → PutsContainer ws us (v.counts.depth - 1) r.container → DoesWords 0 ws us ms ms l l (uniqueness u)
-  unfolding after
-  unique_done h d =
-      let n = sym (rw p at q.number) ∙ h in
-      let k = rw (p, eq-eqb (number_of (view_of (builder_of ws) ms) l (uniqueness u)) 0 n) at q.container in
-      inner_done ws ms l (uniqueness u) (λ b. refl) n (rw p at (unique_inside h)) (rw p at d) (rw k refl)
+  pub unique_done : {us : List ℕ} → PutsContainer ws us (v.counts.depth - 1) k → DoesWords 0 ws us ms ms l l (uniqueness u)
+  unfolding after told
+  unique_done d =
+      let w = rw p at q in
+      let n = sym w.number in
+      let h = ap (told k) (w.container n) in
+      inner_done ws ms l (uniqueness u) (λ b. refl) n (rw p at unique_inside) (rw p at d) (rw h refl)
 
 -- ---- marks
 
@@ -226,78 +281,81 @@ open_inside b ms l x e o =
     let c = (both (chained b.containers b.elements d) _ w).0 in
     (ltb-true 0 d o, leb-true d 64 (both (leb d 64) _ c).0)
 
-module _ (ws ms : List ℕ) (l : Storage) {v : View} {r : Marked} (p : v ≡ view_of (builder_of ws) ms) (q : SetsMark v l r) where
-  pub mark_refused : (r.number ≡ 0 → ⊥) → DoesWords r.number ws ws ms ms l l set_mark
-  mark_refused h = refused ws ms l set_mark (rw p at q.number) h
-
-  pub mark_inside : r.number ≡ 0 → (0 < v.counts.depth) × (v.counts.depth ≤ 64)
-  mark_inside h =
-      let k = none_at (view_of (builder_of ws) ms) l set_mark (sym (rw p at q.number) ∙ h) in
+module _ (ws ms : List ℕ) (l : Storage) {v : View} {r : Marked} (p : v ≡ view_of (builder_of ws) ms) (q : SetsMark v l (Ok r)) where
+  pub mark_inside : (0 < v.counts.depth) × (v.counts.depth ≤ 64)
+  mark_inside =
+      let k = none_at (view_of (builder_of ws) ms) l set_mark (sym (rw p at q.number)) in
       rw p (open_inside (builder_of ws) ms l _ (k 1) (not-false _ (neither _ _ (k 22)).0))
 
-  pub mark_done : {us left : List ℕ} → r.number ≡ 0 → PutsContainer ws us (v.counts.depth - 1) r.container
+  pub mark_done : {us left : List ℕ} → PutsContainer ws us (v.counts.depth - 1) r.container
       → left ≡ put_mark ms (slot_of (v.counts.depth - 1) r.container.marks) r.mark → DoesWords 0 ws us ms left l l set_mark
-  unfolding after with_marks
-  mark_done h d e =
-      let n = sym (rw p at q.number) ∙ h in
-      let k = rw (p, eq-eqb (number_of (view_of (builder_of ws) ms) l set_mark) 0 n) at q.container in
-      let t = rw (p, k, rw p at q.mark) at e in
-      inner_done ws ms l set_mark (λ b. refl) n (rw p at (mark_inside h)) (rw p at d) (rw (k, t) refl)
+  unfolding after told with_marks
+  mark_done d e =
+      let w = rw p at q in
+      let n = sym w.number in
+      let h = ap (told r) (w.marked n) in
+      let k = ap (λ (x : Marked). x.container) h in
+      let t = rw (p, k, ap (λ (x : Marked). x.mark) h) at e in
+      inner_done ws ms l set_mark (λ b. refl) n (rw p at mark_inside) (rw p at d) (rw (k, t) refl)
 
 -- the return to one
-module _ (ws ms : List ℕ) (l : Storage) (j : ℕ) {v : View} {m : Mark} {r : Returned} {e : Storage} (p : v ≡ view_of (builder_of ws) ms)
-    (g : m ≡ mark_at ms (slot_of (v.counts.depth - 1) j)) (q : Returns v l m j r e) where
+module _ (ws ms : List ℕ) (l : Storage) (j : ℕ) {v : View} {m : Mark} {e : Storage} (p : v ≡ view_of (builder_of ws) ms) (g : m ≡ mark_at ms (slot_of (v.counts.depth - 1) j)) where
   -- over the words
-  at : Returns (view_of (builder_of ws) ms) l (mark_to (view_of (builder_of ws) ms) ms (return_to j)) j r e
-  at = rw (p, rw p at g) at q
+  at : {r : Result Returned Refusal} → Returns v l m j r e → Returns (view_of (builder_of ws) ms) l (mark_to (view_of (builder_of ws) ms) ms (return_to j)) j r e
+  at q = rw (p, rw p at g) at q
 
-  pub return_refused : (r.number ≡ 0 → ⊥) → DoesWords r.number ws ws ms ms l e (return_to j)
-  return_refused h =
-      let z = ne_eqb (number_of (view_of (builder_of ws) ms) l (return_to j)) 0 (λ f. h (at.number ∙ f)) in
-      let k : e ≡ l = at.storage (return_reachable (builder_of ws) ms l j) ∙ rw z refl in
-      rw k (refused ws ms l (return_to j) at.number h)
+  pub return_refused : {f : Refusal} → Returns v l m j (Err f) e → DoesWords (refusal_number f) ws ws ms ms l e (return_to j)
+  return_refused {f} q =
+      let w = at q in
+      let z = ne_eqb (number_of (view_of (builder_of ws) ms) l (return_to j)) 0 (λ h. number_some f (w.number ∙ h)) in
+      let k : e ≡ l = w.storage (return_reachable (builder_of ws) ms l j) ∙ rw z refl in
+      rw k (refused ws ms l (return_to j) w.number (number_some f))
 
-  pub return_inside : r.number ≡ 0 → (0 < v.counts.depth) × (v.counts.depth ≤ 64)
-  return_inside h =
-      let k = none_at (view_of (builder_of ws) ms) l (return_to j) (sym at.number ∙ h) in
+  pub return_inside : {r : Returned} → Returns v l m j (Ok r) e → (0 < v.counts.depth) × (v.counts.depth ≤ 64)
+  return_inside q =
+      let k = none_at (view_of (builder_of ws) ms) l (return_to j) (sym (at q).number) in
       rw p (open_inside (builder_of ws) ms l _ (k 1) (not-false _ (neither _ _ (k 22)).0))
 
-  pub return_done : {us xs : List ℕ} → r.number ≡ 0 → PutsInner ws us r.counts r.counts.depth r.elements → PutsContainer us xs (v.counts.depth - 1) r.container
+  pub return_done : {r : Returned} {us xs : List ℕ} → Returns v l m j (Ok r) e → PutsInner ws us r.counts r.counts.depth r.elements → PutsContainer us xs (v.counts.depth - 1) r.container
       → DoesWords 0 ws xs ms ms l e (return_to j)
-  unfolding after returned
-  return_done {us} {xs} h x y =
-      let n = sym at.number ∙ h in
+  unfolding after returned told
+  return_done {r} {us} {xs} q x y =
+      let w = at q in
+      let n = sym w.number in
       let z = eq-eqb (number_of (view_of (builder_of ws) ms) l (return_to j)) 0 n in
-      let o = rw p at (return_inside h) in
+      let o = rw p at (return_inside q) in
       let d = (counts_of ws).depth - 1 in
       let y' = rw p at y in
-      let c = rw z at at.counts in
-      let m' = rw z at at.elements in
-      let k = rw z at at.container in
+      let h = ap (told r) (w.returned n) in
+      let c = ap (λ (t : Returned). t.counts) h in
+      let m' = ap (λ (t : Returned). t.elements) h in
+      let k = ap (λ (t : Returned). t.container) h in
       let u = container_put_lem (containers_of us) d r.container (containers_length us) (omega (arith, o.0, o.1)) in
       let f = containers_of_lem us x.builder in
       let same : builder_of xs ≡ (after (state_of ws ms l) (return_to j)).builder
       = y'.builder ∙ rw (f, elements_of_lem us x.builder, counts_of_lem us x.builder, c, m', k, lt-ltb 0 (counts_of ws).depth o.0) refl in
-      carried ws ms l (return_to j) n same refl (at.storage (return_reachable (builder_of ws) ms l j) ∙ rw z refl)
+      carried ws ms l (return_to j) n same refl (w.storage (return_reachable (builder_of ws) ms l j) ∙ rw z refl)
       ((y'.words ∙ rw (containers_of_lem xs y'.builder, counts_of_lem xs y'.builder, u, counts_of_lem us x.builder, x.words, m') refl) ∙ ap (words_left ws ms (return_to j)) same)
 
 -- ---- a finish, refused or carried out
-module _ (ws ms : List ℕ) (l : Storage) (out : List ℕ) (before : ℕ) {v : View} {r : Ended} {left : List ℕ} (p : v ≡ view_of (builder_of ws) ms) (q : Ends v l out r left) where
-  pub finish_refused : (r.number ≡ 0 → ⊥) → FinishesWords r.number ws ws ms l out left before before
+module _ (ws ms : List ℕ) (l : Storage) (out : List ℕ) (before : ℕ) {v : View} {left : List ℕ} (p : v ≡ view_of (builder_of ws) ms) where
+  pub finish_refused : {f : Refusal} → Ends v l out (Err f) left → FinishesWords (refusal_number f) ws ws ms l out left before before
   unfolding step
-  finish_refused h =
+  finish_refused {f} q =
       let w = rw p at q in
-      let z = ne_eqb (number_of (view_of (builder_of ws) ms) l (finish out)) 0 (λ f. h (w.number ∙ f)) in
-      record { does = refused ws ms l (finish out) w.number h; output = rw (w.output, z) refl; length = rw (ne_eqb r.number 0 h) refl }
+      let z = ne_eqb (number_of (view_of (builder_of ws) ms) l (finish out)) 0 (λ h. number_some f (w.number ∙ h)) in
+      record { does = refused ws ms l (finish out) w.number (number_some f); output = rw (w.output, z) refl; length = rw (ne_eqb (refusal_number f) 0 (number_some f)) refl }
 
-  pub finish_done : {us : List ℕ} → r.number ≡ 0 → PutsCounts ws us r.counts → FinishesWords 0 ws us ms l out left before r.written
-  unfolding step after
-  finish_done h m =
+  pub finish_done : {r : Ended} {us : List ℕ} → Ends v l out (Ok r) left → PutsCounts ws us r.counts → FinishesWords 0 ws us ms l out left before r.written
+  unfolding step after told
+  finish_done {r} q m =
       let w = rw p at q in
-      let n = sym w.number ∙ h in
+      let n = sym w.number in
       let z = eq-eqb (number_of (view_of (builder_of ws) ms) l (finish out)) 0 n in
+      let h = ap (told r) (w.ended n) in
+      let c = ap (λ (t : Ended). t.counts) h in
       record {
-        does = carried ws ms l (finish out) n (m.builder ∙ (rw (w.counts, z) refl)) refl refl (m.words ∙ (rw (w.counts, z) refl));
+        does = carried ws ms l (finish out) n (m.builder ∙ (rw c refl)) refl refl (m.words ∙ (rw c refl));
         output = rw (w.output, z) refl;
-        length = rw (w.written, z) refl;
+        length = rw (z, ap (λ (t : Ended). t.written) h) refl;
       }

@@ -19,29 +19,26 @@
 // The names are derived from the methods of `VariantBuilder`, `ListBuilder` and `ObjectBuilder` of parquet-variant 60.1.0 (see NOTICE).
 // Changed: written in Rattle, over state words.
 ghost use Rattle.std.specs.Prelude.{◌≡◌, false, true};
-ghost use Rattle.semantics.specs.Record.{Scalars, scalar_of, append as append_of, close as close_of, fixed, open_in, packed, register as register_of, return_to, roll_back, set_mark, storage_of, uniqueness, uuid as uuid_of};
-ghost use Rattle.refusals.specs.Decide.{name_of};
-ghost use Rattle.encoding.specs.Rows.{first};
-ghost use Rattle.value.specs.Scalar.{scalar_bytes};
-ghost use Rattle.semantics.specs.Table.{scalar_rows};
+ghost use Rattle.semantics.specs.Record.{Scalars, append as append_of, close as close_of, fixed, open_in, packed, register as register_of, return_to, roll_back, set_mark, storage_of, uniqueness, uuid as uuid_of};
+ghost use Rattle.semantics.specs.Refusal.{number_told};
+ghost use Rattle.refusals.specs.Decide.{name_in, name_of, size_told};
 ghost use Rattle.ffi.specs.Dates.{civil_by, date_of};
-ghost use Rattle.ffi.specs.Scalars.{bytes_by, variant_of};
+ghost use Rattle.ffi.specs.Scalars.{OwnBytes, bytes_by, variant_of};
 ghost use Rattle.ffi.specs.Words.{DoesWords, EntersWords, FinishesWords, MakesWords};
 
 use crate::WORDS;
 use crate::dates::civil_by;
-use crate::scalars::{kind_of, no_scalar, variant_of};
-use crate::stored::{OfKind, Stored};
+use crate::scalars::variant_of;
+use crate::stored::{Stored, bytes_by, size_of};
 use crate::words::{Words, moved, put_container, put_counts, put_elements, view_of};
 use actions::{
     Entered, child, close_over, enter_over, finish_over, mark_over, note, packed_own, return_over,
-    rollback_over, unique_over,
+    rollback_over, unique_over, value_own,
 };
 use marks::{NUMBERS, mark_at, put_mark};
 use records::Record;
-use refusals::{make_number, row};
-use semantics::fresh_counts;
-use value::variant::{ill_formed, out_of_range};
+use refusals::{Seen, may_make, name_if};
+use semantics::{Refusal, fresh_counts};
 
 // A fresh builder; children inherit the uniqueness mark, and offsets, ids and dictionary numbers take no fewer bytes than the floor, 1 to 4.
 // It sets the counts alone. Any other floor is 24, and nothing is made.
@@ -49,9 +46,8 @@ use value::variant::{ill_formed, out_of_range};
 pub extern "C" fn variant_new(words: &mut [usize; WORDS], unique: bool, floor: usize) -> u8
     ensures { MakesWords result words.old words.new unique floor }
 {
-    let n = make_number(floor);
-    if n != 0 {
-        return n;
+    if let Err(r) = may_make(floor) {
+        return r.number();
     }
     let c = fresh_counts(unique, floor);
     put_counts(words, c);
@@ -74,10 +70,22 @@ pub extern "C" fn variant_add_field_name(
         (storage_of value.now text.old ends.old entries.now undo.now)
         (storage_of value.now text.new ends.new entries.now undo.now) (register_of name.now) }
 {
-    let e = enter(
-        words, marks, value, text, ends, entries, undo, true, name, false, false, 0, 0,
-    );
-    e.number
+    match enter(
+        words,
+        marks,
+        value,
+        text,
+        ends,
+        entries,
+        undo,
+        Some(name),
+        false,
+        false,
+        Ok(0),
+    ) {
+        Ok(_) => 0,
+        Err(r) => r.number(),
+    }
 }
 
 // The innermost container closed.
@@ -145,11 +153,9 @@ pub extern "C" fn variant_append_value(
         (storage_of value.new text.new ends.new entries.new undo.new)
         (append_of (name_of named name.now) (fixed (variant_of code z low scale))) }
 {
-    let x = variant_of(code, z, low, scale);
-    let own = row(out_of_range(x), 7, 0);
-    append(
-        words, marks, value, text, ends, entries, undo, named, name, &x, own,
-    )
+    let x = value_own(variant_of(code, z, low, scale));
+    let given = name_if(named, name);
+    number_of(append(words, marks, value, text, ends, entries, undo, given, x))
 }
 
 // A date, or a date and a time of day in microseconds, by the code of the type that it is stored as: 11, a date; 12 and 13, a timestamp in
@@ -176,10 +182,9 @@ pub extern "C" fn variant_append_civil(
         (storage_of value.new text.new ends.new entries.new undo.new)
         (append_of (name_of named name.now) (civil_by code (date_of year month day) time)) }
 {
-    let s = civil_by(code, year, month, day, time);
-    append(
-        words, marks, value, text, ends, entries, undo, named, name, &s.variant, s.number,
-    )
+    let x = civil_by(code, year, month, day, time);
+    let given = name_if(named, name);
+    number_of(append(words, marks, value, text, ends, entries, undo, given, x))
 }
 
 // Packed decimal, two digits a byte, and a scale: the smallest of the three decimals that holds the number.
@@ -202,14 +207,13 @@ pub extern "C" fn variant_append_packed(
         (storage_of value.new text.new ends.new entries.new undo.new)
         (append_of (name_of named name.now) (packed scale bytes.now)) }
 {
-    let o = packed_own(bytes, scale);
-    append(
-        words, marks, value, text, ends, entries, undo, named, name, &o.variant, o.number,
-    )
+    let x = packed_own(bytes, scale);
+    let given = name_if(named, name);
+    number_of(append(words, marks, value, text, ends, entries, undo, given, x))
 }
 
-// What a scalar is stored as, with its own number, 0 where it has none.
-fn append<S: Stored>(
+// What a scalar is stored as, or its own refusal.
+fn append<S: Stored + Copy>(
     words: &mut [usize; WORDS],
     marks: &[usize; NUMBERS],
     value: &mut [u8],
@@ -217,28 +221,33 @@ fn append<S: Stored>(
     ends: &mut [usize],
     entries: &mut [usize],
     undo: &mut [usize],
-    named: bool,
-    name: &[u8],
-    x: &S,
-    own: u8,
-) -> u8
-    ensures { (s : Scalars) → own ≡ first (scalar_rows s) → (own ≡ 0 → scalar_bytes (scalar_of s) ≡ S.stored x.now)
-        → DoesWords result words.old words.new marks.now marks.now
+    name: Option<&[u8]>,
+    x: Result<S, Refusal>,
+) -> Result<(), Refusal>
+    ensures { (s : Scalars) → OwnBytes S.stored s x
+        → DoesWords (number_told result) words.old words.new marks.now marks.now
         (storage_of value.old text.old ends.old entries.old undo.old)
         (storage_of value.new text.new ends.new entries.new undo.new)
-        (append_of (name_of named name.now) s) }
+        (append_of (name_in name.entry) s) }
 {
     let c = Words(words).counts();
-    let size = x.size();
+    let size = size_of(x);
     let e = enter(
-        words, marks, value, text, ends, entries, undo, named, name, true, false, own, size,
-    );
-    if e.number != 0 {
-        return e.number;
-    }
+        words, marks, value, text, ends, entries, undo, name, true, false, size,
+    )?;
     note(e, entries, undo);
-    let _ = x.write(value, c.value);
-    0
+    let _ = x.unwrap().write(value, c.value);
+    Ok(())
+}
+
+// The number that a call answers: 0 where it is carried out, or its refusal's.
+fn number_of(r: Result<(), Refusal>) -> u8
+    ensures { result ≡ number_told r }
+{
+    match r {
+        Ok(()) => 0,
+        Err(r) => r.number(),
+    }
 }
 
 // Bytes of kind 0, binary; 1, String; 2, short text; 3, plain text. Those of any other kind are refused as numbers that are no scalar.
@@ -261,28 +270,9 @@ pub extern "C" fn variant_append_bytes(
         (storage_of value.new text.new ends.new entries.new undo.new)
         (append_of (name_of named name.now) (bytes_by kind bytes.now)) }
 {
-    match kind_of(kind) {
-        Some(kind) => {
-            let own = row(ill_formed(kind, bytes), 8, 0);
-            let x = OfKind { kind, bytes };
-            append(
-                words, marks, value, text, ends, entries, undo, named, name, &x, own,
-            )
-        }
-        None => append(
-            words,
-            marks,
-            value,
-            text,
-            ends,
-            entries,
-            undo,
-            named,
-            name,
-            &no_scalar(),
-            7,
-        ),
-    }
+    let x = bytes_by(kind, bytes);
+    let given = name_if(named, name);
+    number_of(append(words, marks, value, text, ends, entries, undo, given, x))
 }
 
 #[unsafe(no_mangle)]
@@ -303,9 +293,18 @@ pub extern "C" fn variant_append_uuid(
         (storage_of value.new text.new ends.new entries.new undo.new)
         (append_of (name_of named name.now) (uuid_of uuid.now)) }
 {
-    append(
-        words, marks, value, text, ends, entries, undo, named, name, uuid, 0,
-    )
+    let given = name_if(named, name);
+    number_of(append(
+        words,
+        marks,
+        value,
+        text,
+        ends,
+        entries,
+        undo,
+        given,
+        Ok(*uuid),
+    ))
 }
 
 #[unsafe(no_mangle)]
@@ -325,9 +324,8 @@ pub extern "C" fn variant_new_list(
         (storage_of value.now text.new ends.new entries.new undo.new)
         (open_in (name_of named name.now) false) }
 {
-    new_container(
-        words, marks, value, text, ends, entries, undo, named, name, false,
-    )
+    let given = name_if(named, name);
+    number_of(new_container(words, marks, value, text, ends, entries, undo, given, false))
 }
 
 #[unsafe(no_mangle)]
@@ -347,9 +345,8 @@ pub extern "C" fn variant_new_object(
         (storage_of value.now text.new ends.new entries.new undo.new)
         (open_in (name_of named name.now) true) }
 {
-    new_container(
-        words, marks, value, text, ends, entries, undo, named, name, true,
-    )
+    let given = name_if(named, name);
+    number_of(new_container(words, marks, value, text, ends, entries, undo, given, true))
 }
 
 fn new_container(
@@ -360,27 +357,33 @@ fn new_container(
     ends: &mut [usize],
     entries: &mut [usize],
     undo: &mut [usize],
-    named: bool,
-    name: &[u8],
+    name: Option<&[u8]>,
     object: bool,
-) -> u8
-    ensures { DoesWords result words.old words.new marks.now marks.now
+) -> Result<(), Refusal>
+    ensures { DoesWords (number_told result) words.old words.new marks.now marks.now
         (storage_of value.now text.old ends.old entries.old undo.old)
         (storage_of value.now text.new ends.new entries.new undo.new)
-        (open_in (name_of named name.now) object) }
+        (open_in (name_in name.entry) object) }
 {
     let c = Words(words).counts();
     let e = enter(
-        words, marks, value, text, ends, entries, undo, named, name, true, true, 0, 0,
-    );
-    if e.number != 0 {
-        return e.number;
-    }
+        words,
+        marks,
+        value,
+        text,
+        ends,
+        entries,
+        undo,
+        name,
+        true,
+        true,
+        Ok(0),
+    )?;
     let p = note(e, entries, undo);
     let k = child(c, e, p, object);
     put_container(words, c.depth, k);
     put_elements(words, c.depth + 1, 0);
-    0
+    Ok(())
 }
 
 // The uniqueness mark of the innermost object, for later calls.
@@ -400,11 +403,18 @@ pub extern "C" fn variant_with_validate_unique_fields(
         (storage_of value.now text.now ends.now entries.now undo.now) (uniqueness unique) }
 {
     let v = view_of(words, marks);
-    let r = unique_over(v, value, text, ends, entries, undo, unique);
-    if r.number != 0 {
-        return r.number;
-    }
-    let k = r.container;
+    let s = Seen {
+        view: &v,
+        value,
+        text,
+        ends,
+        entries,
+        undo,
+    };
+    let k = match unique_over(&s, unique) {
+        Ok(k) => k,
+        Err(r) => return r.number(),
+    };
     put_container(words, v.counts.depth - 1, k);
     0
 }
@@ -425,10 +435,18 @@ pub extern "C" fn variant_mark(
         (storage_of value.now text.now ends.now entries.now undo.now) set_mark }
 {
     let v = view_of(words, marks);
-    let r = mark_over(v, value, text, ends, entries, undo);
-    if r.number != 0 {
-        return r.number;
-    }
+    let s = Seen {
+        view: &v,
+        value,
+        text,
+        ends,
+        entries,
+        undo,
+    };
+    let r = match mark_over(&s) {
+        Ok(r) => r,
+        Err(e) => return e.number(),
+    };
     let d = v.counts.depth - 1;
     let k = r.container;
     let m = r.mark;
@@ -457,10 +475,10 @@ pub extern "C" fn variant_return_to(
     let v = view_of(words, marks);
     let d = v.counts.depth.saturating_sub(1);
     let p = mark_at(marks, d, mark);
-    let r = return_over(v, value, text, ends, entries, undo, mark, p);
-    if r.number != 0 {
-        return r.number;
-    }
+    let r = match return_over(v, value, text, ends, entries, undo, mark, p) {
+        Ok(r) => r,
+        Err(e) => return e.number(),
+    };
     let c = r.counts;
     let k = r.container;
     put_counts(words, c);
@@ -487,18 +505,25 @@ pub extern "C" fn variant_finish(
         written.old written.new }
 {
     let v = view_of(words, marks);
-    let r = finish_over(v, value, text, ends, entries, undo, out);
-    let n = r.number;
-    if n != 0 {
-        return n;
-    }
+    let s = Seen {
+        view: &v,
+        value,
+        text,
+        ends,
+        entries,
+        undo,
+    };
+    let r = match finish_over(&s, out) {
+        Ok(r) => r,
+        Err(e) => return e.number(),
+    };
     let c = r.counts;
     put_counts(words, c);
     *written = r.written;
     0
 }
 
-// A register, an append or an open, up to its entry and its bytes: where its number is 0 the name is added, and the counts and the
+// A register, an append or an open, up to its entry and its bytes: where it is carried out the name is added, and the counts and the
 // innermost's elements are put.
 fn enter(
     words: &mut [usize; WORDS],
@@ -508,26 +533,18 @@ fn enter(
     ends: &mut [usize],
     entries: &[usize],
     undo: &[usize],
-    named: bool,
-    name: &[u8],
+    name: Option<&[u8]>,
     into: bool,
     opens: bool,
-    own: u8,
-    size: usize,
-) -> Entered
+    size: Result<usize, Refusal>,
+) -> Result<Entered, Refusal>
     ensures { EntersWords words.old words.new marks.now
-        (storage_of value.now text.old ends.old entries.now undo.now) (name_of named name.now)
-        into opens own size result text.new ends.new }
+        (storage_of value.now text.old ends.old entries.now undo.now) (name_in name.entry)
+        into opens (number_told size) (size_told size) result text.new ends.new }
 {
     let v = view_of(words, marks);
-    let e = enter_over(
-        v, value, text, ends, entries, undo, named, name, into, opens, own, size,
-    );
-    if e.number != 0 {
-        return e;
-    }
-    let d = e.counts;
-    put_counts(words, d);
+    let e = enter_over(v, value, text, ends, entries, undo, name, into, opens, size)?;
+    put_counts(words, e.counts);
     put_elements(words, v.counts.depth, e.elements);
-    e
+    Ok(e)
 }

@@ -3,9 +3,10 @@ ghost use Rattle.std.specs.Prelude.{◌≡◌};
 ghost use Rattle.actions.specs.Actions.{StoredAs};
 ghost use Rattle.ffi.specs.Dates.{TellsDate, TellsDays, civil_by, civil_of, date_of};
 
-use actions::{Own, civil_own};
+use actions::civil_own;
 use calendar::civil::Civil;
 use calendar::date::{Date, OutOfCalendar, date_of, days_of};
+use semantics::Refusal;
 use value::variant::Variant;
 
 // The day number of a date, into `days`; 17 where the date is not in the calendar, and `days` is then as it was.
@@ -37,15 +38,18 @@ pub extern "C" fn variant_date_of(days: i64, year: &mut i64, month: &mut i64, da
     0
 }
 
-pub(crate) fn civil_by(code: u8, year: i64, month: i64, day: i64, time: i64) -> Own
-    ensures { StoredAs (civil_by code (date_of year month day) time) result.variant result.number }
+pub(crate) fn civil_by(
+    code: u8,
+    year: i64,
+    month: i64,
+    day: i64,
+    time: i64,
+) -> Result<Variant, Refusal>
+    ensures { StoredAs (civil_by code (date_of year month day) time) result }
 {
     match code {
         11..=13 => civil_own(civil_of(code, Date { year, month, day }, time)),
-        _ => Own {
-            variant: Variant::Null,
-            number: 7,
-        },
+        _ => Err(Refusal::OutOfRange),
     }
 }
 

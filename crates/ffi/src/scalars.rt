@@ -39,7 +39,7 @@ pub(crate) fn variant_of(code: u8, z: i64, low: u64, scale: u8) -> Variant
     }
 }
 
-pub(crate) fn no_scalar() -> Variant
+fn no_scalar() -> Variant
     ensures { result ≡ no_scalar }
 {
     Variant::Time(86_400_000_000)

@@ -2,10 +2,13 @@
 ghost use Rattle.std.specs.Prelude.{◌≡◌, List, ℕ, length};
 ghost use Rattle.encoding.specs.Slices.{Writes};
 ghost use Rattle.value.specs.Scalar.{scalar_bytes, stored_bytes, stored_uuid, stored_variant};
+ghost use Rattle.ffi.specs.Scalars.{OwnBytes, bytes_by, size_by};
 
+use crate::scalars::kind_of;
 use encoding::slices::NoRoom;
+use semantics::Refusal;
 use value::scalar::{bytes_size, variant_size, write_bytes, write_uuid, write_variant};
-use value::variant::{Variant, VariantBytes};
+use value::variant::{Variant, VariantBytes, ill_formed};
 
 pub(crate) trait Stored {
     ghost stored: { Self → List ℕ };
@@ -58,5 +61,26 @@ impl Stored for [u8; 16] {
 
     fn write(&self, value: &mut [u8], at: usize) -> Result<(), NoRoom> {
         write_uuid(value, at, *self)
+    }
+}
+
+// The bytes that it takes, or its own refusal.
+pub(crate) fn size_of<S: Stored + Copy>(x: Result<S, Refusal>) -> Result<usize, Refusal>
+    ensures { result ≡ size_by S.stored x }
+{
+    Ok(x?.size())
+}
+
+// Bytes by the code of their kind, or their own refusal; those of no kind are no scalar.
+pub(crate) fn bytes_by(kind: u8, bytes: &[u8]) -> Result<OfKind<'_>, Refusal>
+    ensures { OwnBytes (λ x. scalar_bytes (stored_bytes x.kind x.bytes.now)) (bytes_by kind bytes.now) result }
+{
+    let Some(kind) = kind_of(kind) else {
+        return Err(Refusal::OutOfRange);
+    };
+    if ill_formed(kind, bytes) {
+        Err(Refusal::IllFormed)
+    } else {
+        Ok(OfKind { kind, bytes })
     }
 }

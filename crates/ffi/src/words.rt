@@ -8,7 +8,7 @@ use actions::Moved;
 use marks::NUMBERS;
 use metadata::MetadataBuilder;
 use records::Record;
-use semantics::{Container, Counts, ParentEntry, View, no_container};
+use semantics::{Container, Counts, ParentEntry, Refusal, View, no_container};
 
 // The words, read as a builder's record.
 #[derive(Clone, Copy)]
@@ -148,16 +148,16 @@ pub(crate) fn put_elements(words: &mut [usize; WORDS], d: usize, n: usize)
     }
 }
 
-// A piece's counts and elements put back where its number is 0, and its number.
-pub(crate) fn moved(words: &mut [usize; WORDS], r: Moved) -> u8
+// A piece's counts and elements put back where it is carried out, and its number.
+pub(crate) fn moved(words: &mut [usize; WORDS], r: Result<Moved, Refusal>) -> u8
     ensures { Puts r result words.old words.new }
 {
-    let n = r.number;
-    if n != 0 {
-        return n;
+    match r {
+        Ok(m) => {
+            put_counts(words, m.counts);
+            put_elements(words, m.counts.depth, m.elements);
+            0
+        }
+        Err(e) => e.number(),
     }
-    let c = r.counts;
-    put_counts(words, c);
-    put_elements(words, c.depth, r.elements);
-    0
 }

@@ -1,18 +1,22 @@
-use Rattle.std.proofs.Common.{◌∙◌, ap, sym, length}
+use Rattle.std.proofs.lemmas.Result.{err_from_is_err_and}
 use Rattle.semantics.specs.Record.{storage_of}
-use Rattle.refusals.specs.Decide.{name_of}
-use Rattle.ffi.proofs.CallLaws.{does_appended, does_refused}
+use Rattle.refusals.specs.Decide.{name_in}
+use Rattle.ffi.proofs.CallLaws.{own_appended, own_refused, own_whole}
 use Rattle.ffi.proofs.calls.append.Goals as goal
 
-pub returns-then-e-ne0 : goal.returns-then-e-ne0
-returns-then-e-ne0 g c s own stored =
+pub returns-in_err-e : goal.returns-in_err-e
+returns-in_err-e g c s t =
     let a = c.args in
-    does_refused a.words.now a.marks.now (storage_of a.value.now a.text.now a.ends.now a.entries.now a.undo.now) (name_of a.named a.name.now) s own
-    (λ z. c.size-size.ensures ∙ ap length (sym (stored z))) c.enter-e.ensures c.if-e-ne0.true
+    let x = err_from_is_err_and c.from_residual.result c.from_residual.ensures.1 in
+    rw (x.1, x.2) (own_refused g.S.Stored.stored a.x c.size_of-size.ensures a.words.now a.marks.now (storage_of a.value.now a.text.now a.ends.now a.entries.now a.undo.now) (name_in a.name) t c.in_err-e.ensures)
+
+pub unwrap-requires : goal.unwrap-requires
+unwrap-requires g c =
+    let a = c.args in
+    own_whole g.S.Stored.stored a.x c.size_of-size.ensures a.words.now a.marks.now (storage_of a.value.now a.text.now a.ends.now a.entries.now a.undo.now) (name_in a.name) c.in_ok-e.ensures
 
 pub returns : goal.returns
-returns g c s own stored =
+returns g c s t =
     let a = c.args in
-    does_appended a.words.now a.marks.now (storage_of a.value.now a.text.now a.ends.now a.entries.now a.undo.now) (name_of a.named a.name.now) s own
-    (λ z. c.size-size.ensures ∙ ap length (sym (stored z))) c.enter-e.ensures {p = c.write.result} c.if-e-ne0.false c.note.ensures.1 c.note.ensures.2
-    (λ z. rw (stored z) (rw c.counts-c.ensures at c.write.ensures))
+    own_appended g.S.Stored.stored a.x c.size_of-size.ensures a.words.now a.marks.now (storage_of a.value.now a.text.now a.ends.now a.entries.now a.undo.now) (name_in a.name) {p = c.write.result} t c.in_ok-e.ensures
+    c.note.ensures.1 c.note.ensures.2 c.unwrap.ensures (rw c.counts-c.ensures at c.write.ensures)

@@ -1,18 +1,19 @@
+use Rattle.std.proofs.lemmas.Result.{err_from_is_err_and}
 use Rattle.semantics.specs.Record.{storage_of}
-use Rattle.refusals.specs.Decide.{name_of}
+use Rattle.semantics.specs.Refusal.{number_told}
+use Rattle.refusals.specs.Decide.{name_in, size_told}
 use Rattle.ffi.proofs.CallLaws.{enters_done, enters_refused}
 use Rattle.ffi.proofs.WordLaws.{puts_inner}
 use Rattle.ffi.proofs.calls.enter.Goals as goal
 
-pub returns-then-e-ne0 : goal.returns-then-e-ne0
-returns-then-e-ne0 c =
+pub returns-in_err-e : goal.returns-in_err-e
+returns-in_err-e c =
     let a = c.args in
-    enters_refused a.words.now a.marks.now (storage_of a.value.now a.text.now a.ends.now a.entries.now a.undo.now) (name_of a.named a.name.now) a.into a.opens a.own a.size
-    c.view_of-v.ensures c.enter_over-e.ensures c.if-e-ne0.true
+    let x = err_from_is_err_and c.from_residual.result c.from_residual.ensures.1 in
+    enters_refused a.words.now a.marks.now (storage_of a.value.now a.text.now a.ends.now a.entries.now a.undo.now) (name_in a.name) a.into a.opens (number_told a.size) (size_told a.size) c.view_of-v.ensures c.in_err-e.ensures x.1 x.2
 
 pub returns : goal.returns
 returns c =
     let a = c.args in
-    enters_done a.words.now a.marks.now (storage_of a.value.now a.text.now a.ends.now a.entries.now a.undo.now) (name_of a.named a.name.now) a.into a.opens a.own a.size
-    c.view_of-v.ensures c.enter_over-e.ensures c.if-e-ne0.false
+    enters_done a.words.now a.marks.now (storage_of a.value.now a.text.now a.ends.now a.entries.now a.undo.now) (name_in a.name) a.into a.opens (number_told a.size) (size_told a.size) c.view_of-v.ensures c.in_ok-e.ensures
     (puts_inner c.put_counts.ensures (rw c.view_of-v.ensures at c.put_elements.ensures))

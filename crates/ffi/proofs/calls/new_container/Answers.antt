@@ -1,33 +1,30 @@
 use native.Mathlib.Omega.{arith}
-use Prim.Native.Nat.{◌<◌}
-use Rattle.semantics.specs.Record.{Storage, storage_of}
-use Rattle.refusals.specs.Decide.{name_of}
+use Rattle.std.proofs.lemmas.Result.{err_from_is_err_and}
+use Rattle.semantics.specs.Record.{storage_of}
+use Rattle.refusals.specs.Decide.{name_in}
 use Rattle.ffi.proofs.CallLaws.{opens_deep, opens_done, opens_stays}
 use Rattle.ffi.proofs.calls.new_container.Goals as goal
-use Rattle.ffi.proofs.calls.new_container.Goals.{Else-e-ne0, Start}
 
-abbrev lent : Start → Storage
-lent s = let a = s.args in storage_of a.value.now a.text.now a.ends.now a.entries.now a.undo.now
-
-deep : (i : Else-e-ne0) → i.counts-c.result.depth < 64
-deep i =
-    let a = i.args in
-    rw i.counts-c.ensures (opens_deep a.words.now a.marks.now (storage_of a.value.now a.text.now a.ends.now a.entries.now a.undo.now) (name_of a.named a.name.now) a.object i.enter-e.ensures i.if-e-ne0.false)
-
-pub returns-then-e-ne0 : goal.returns-then-e-ne0
-returns-then-e-ne0 c =
+pub returns-in_err-e : goal.returns-in_err-e
+returns-in_err-e c =
     let a = c.args in
-    opens_stays a.words.now a.marks.now (lent (goal.at.returns-then-e-ne0 c).Start) (name_of a.named a.name.now) a.object c.enter-e.ensures c.if-e-ne0.true
+    let x = err_from_is_err_and c.from_residual.result c.from_residual.ensures.1 in
+    rw (x.1, x.2) (opens_stays a.words.now a.marks.now (storage_of a.value.now a.text.now a.ends.now a.entries.now a.undo.now) (name_in a.name) a.object c.in_err-e.ensures)
 
 pub put_container-requires : goal.put_container-requires
-put_container-requires c = deep (goal.at.put_container-requires c).Else-e-ne0
+put_container-requires c =
+    let a = c.args in
+    rw c.counts-c.ensures (opens_deep a.words.now a.marks.now (storage_of a.value.now a.text.now a.ends.now a.entries.now a.undo.now) (name_in a.name) a.object c.in_ok-e.ensures)
 
 pub overflow_add-c : goal.overflow_add-c
-overflow_add-c c = let h = deep (goal.at.overflow_add-c c).Else-e-ne0 in record { fits = omega arith }
+overflow_add-c c =
+    let a = c.args in
+    let h = opens_deep a.words.now a.marks.now (storage_of a.value.now a.text.now a.ends.now a.entries.now a.undo.now) (name_in a.name) a.object c.in_ok-e.ensures in
+    record { fits = rw c.counts-c.ensures (omega (arith, h)) }
 
 pub returns : goal.returns
 returns c =
     let a = c.args in
-    opens_done a.words.now a.marks.now (lent (goal.at.returns c).Start) (name_of a.named a.name.now) a.object c.enter-e.ensures c.if-e-ne0.false
+    opens_done a.words.now a.marks.now (storage_of a.value.now a.text.now a.ends.now a.entries.now a.undo.now) (name_in a.name) a.object c.in_ok-e.ensures
     c.note-p.ensures (rw c.counts-c.ensures at c.child-k.ensures) (rw c.counts-c.ensures at c.put_container.ensures)
     (rw c.counts-c.ensures at c.put_elements.ensures)

@@ -2,9 +2,8 @@
 use crate::parse::number;
 use metadata::{metadata_size, num_field_names};
 use semantics::Counts;
-use std::fmt;
-use std::io;
 use std::io::Write;
+use std::{fmt, io};
 
 // The script at hand and its line, and the calls and differences so far.
 #[derive(Clone, Copy, Default)]

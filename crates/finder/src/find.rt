@@ -10,9 +10,8 @@ use text_search::least_place;
 pub fn find_text(d: &[u8], v: &[u8], wanted: &[u8], out: &mut [u8]) -> TextFound
     ensures { FindsText d.now v.now wanted.now out.old result out.new }
 {
-    let number = read_pair(d, v);
-    if number != 0 {
-        return TextFound::Refused(number);
+    if let Err(error) = read_pair(d, v) {
+        return TextFound::Refused(error.number());
     }
     let place = least_place(v, wanted);
     if v.len() <= place {

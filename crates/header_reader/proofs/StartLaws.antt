@@ -62,11 +62,10 @@ starts_more vs at n e h =
 pub rest_is : (vs : List ℕ) (at : ℕ) → take (length vs - at) (drop at vs) ≡ drop at vs
 rest_is vs at = take_all (length vs - at) (drop at vs) (omega (arith, length-drop at vs))
 
-pub value_of_rest : (v : List ℕ) (at : ℕ) {rest : List ℕ} {n : ℕ} → rest ≡ take (length v - at) (drop at v) → n ≡ measured rest → take (n - 0) (drop 0 rest) ≡ value_from at v
+pub value_of_rest : (v : List ℕ) (at : ℕ) {rest : List ℕ} {n : ℕ} → rest ≡ take (length v - at) (drop at v) → n ≡ measured rest → take n rest ≡ value_from at v
 value_of_rest v at {rest} {n} e m =
     let r : rest ≡ drop at v = e ∙ rest_is v at in
-    let z : n - 0 ≡ measured (drop at v) = omega (arith, m ∙ ap measured r) in
-    rw (z, r)
+    rw (m, r)
 
 pub walked : (vs : List ℕ) (at : ℕ) {n : ℕ} → n ≡ measured (take (length vs - at) (drop at vs)) → n ≡ measured (drop at vs)
 walked vs at e = e ∙ ap measured (rest_is vs at)

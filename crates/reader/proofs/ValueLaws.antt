@@ -8,6 +8,7 @@ use lib.Dec.{eqb, ltb}
 use lib.ListN.{length, take, drop, get_or, length-drop}
 use lib.Seq.{drop-cons, drop-drop}
 use borrow.Author.Tests.{eq-eqb, ne_eqb, lt-ltb, le-ltb, ltb-true}
+use Rattle.std.specs.Prelude.{Some, None}
 use Rattle.metadata.specs.Names.{Name}
 use Rattle.measure.specs.Measure.{measured}
 use Rattle.measure.proofs.MeasureLaws.{measured_within}
@@ -133,34 +134,35 @@ module _ (names : List Name) (v : List ℕ) where
   value_object zero h k = absurd (k refl)
   value_object (suc d) h k = let e : suc d - 1 ≡ d = omega arith in rw (not_scalar (omega arith), not_list (omega arith), e)
 
-  -- a header that does not pass has size 0
-  headless : (t u : Bool) (from : ℕ) {r : ℕ} → 0 < from → r ≡ cond t from 0 → r ≡ 0 → false ≡ (t && u)
-  headless true u from h e z = absurd (omega arith)
-  headless false u from h e z = refl
+  -- a header that does not pass
+  headless : (t u : Bool) (from : ℕ) → None ≡ cond t (Some from) None → false ≡ (t && u)
+  headless true u from e = cc
+  headless false u from e = refl
 
   -- the data behind one that passes
-  headed : (f : List ℕ → Bool) (t : Bool) (from : ℕ) {r : ℕ} {s : Bool} → r ≡ cond t from 0 → (r ≡ 0 → ⊥)
+  headed : (f : List ℕ → Bool) (t : Bool) (from : ℕ) {r : ℕ} {s : Bool} → Some r ≡ cond t (Some from) None
       → s ≡ each_value f (length (take (length v - r) (drop r v))) (take (length v - r) (drop r v)) → s ≡ (t && each_value f (length v) (drop from v))
-  headed f false from e z k = absurd (z e)
-  headed f true from {r} {s} e z k =
+  headed f false from e k = cc
+  headed f true from {r} {s} e k =
       let l = length-drop from v in
-      k ∙ (ap (λ d. each_value f (length d) d) (rest_is v r) ∙ (ap (λ n. each_value f (length (drop n v)) (drop n v)) e ∙ sym (each_fuel f (length v) (drop from v) (omega arith))))
+      let q : r ≡ from = cc in
+      k ∙ (ap (λ d. each_value f (length d) d) (rest_is v r) ∙ (ap (λ n. each_value f (length (drop n v)) (drop n v)) q ∙ sym (each_fuel f (length v) (drop from v) (omega arith))))
 
-  module _ {depth r : ℕ} (h : kind ≡ 3) (k : depth ≡ 0 → ⊥) (e : r ≡ list_head v) where
-    pub list_headless : r ≡ 0 → false ≡ is_value names depth v
-    list_headless z = headless (is_list_head v) _ (list_from v) (omega arith) e z ∙ sym (value_list depth h k)
+  module _ {depth : ℕ} (h : kind ≡ 3) (k : depth ≡ 0 → ⊥) where
+    pub list_headless : None ≡ list_head v → false ≡ is_value names depth v
+    list_headless e = headless (is_list_head v) _ (list_from v) e ∙ sym (value_list depth h k)
 
-    pub list_headed : {s : Bool} → (r ≡ 0 → ⊥) → s ≡ each_value (is_value names (depth - 1)) (length (take (length v - r) (drop r v))) (take (length v - r) (drop r v))
+    pub list_headed : {r : ℕ} {s : Bool} → Some r ≡ list_head v → s ≡ each_value (is_value names (depth - 1)) (length (take (length v - r) (drop r v))) (take (length v - r) (drop r v))
         → s ≡ is_value names depth v
-    list_headed z b = headed (is_value names (depth - 1)) (is_list_head v) (list_from v) e z b ∙ sym (value_list depth h k)
+    list_headed e b = headed (is_value names (depth - 1)) (is_list_head v) (list_from v) e b ∙ sym (value_list depth h k)
 
-  module _ {depth r : ℕ} (h : kind ≡ 2) (k : depth ≡ 0 → ⊥) (e : r ≡ object_head names v) where
-    pub object_headless : r ≡ 0 → false ≡ is_value names depth v
-    object_headless z = headless (is_object_head names v) _ (object_from v) (omega arith) e z ∙ sym (value_object depth h k)
+  module _ {depth : ℕ} (h : kind ≡ 2) (k : depth ≡ 0 → ⊥) where
+    pub object_headless : None ≡ object_head names v → false ≡ is_value names depth v
+    object_headless e = headless (is_object_head names v) _ (object_from v) e ∙ sym (value_object depth h k)
 
-    pub object_headed : {s : Bool} → (r ≡ 0 → ⊥) → s ≡ each_value (is_value names (depth - 1)) (length (take (length v - r) (drop r v))) (take (length v - r) (drop r v))
+    pub object_headed : {r : ℕ} {s : Bool} → Some r ≡ object_head names v → s ≡ each_value (is_value names (depth - 1)) (length (take (length v - r) (drop r v))) (take (length v - r) (drop r v))
         → s ≡ is_value names depth v
-    object_headed z b = headed (is_value names (depth - 1)) (is_object_head names v) (object_from v) e z b ∙ sym (value_object depth h k)
+    object_headed e b = headed (is_value names (depth - 1)) (is_object_head names v) (object_from v) e b ∙ sym (value_object depth h k)
 
 -- of a container's data, as the code cuts it
 module _ {f : List ℕ → Bool} {t : Bool} {v : List ℕ} {at : ℕ} (w : Walks f t v at) {n : ℕ} (e : n ≡ measured (take (length v - at) (drop at v))) (h : at < length v) (k : n ≡ 0 → ⊥) where

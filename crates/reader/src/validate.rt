@@ -11,10 +11,10 @@ use scalar_reader::is_scalar;
 pub(crate) fn value_ok(d: &[u8], v: &[u8], depth: usize) -> bool
     ensures { result ≡ is_value (dictionary_names d.now) depth v.now }
 {
-    if v.len() == 0 {
+    let [first, ..] = v else {
         return false;
-    }
-    match v[0] % 4 {
+    };
+    match *first % 4 {
         3 => list_ok(d, v, depth),
         2 => object_ok(d, v, depth),
         _ => is_scalar(v),
@@ -30,10 +30,9 @@ fn list_ok(d: &[u8], v: &[u8], depth: usize) -> bool
     if depth == 0 {
         return false;
     }
-    let from = list_head(v);
-    if from == 0 {
+    let Some(from) = list_head(v) else {
         return false;
-    }
+    };
     values_ok(d, &v[from..], depth - 1)
 }
 
@@ -46,10 +45,9 @@ fn object_ok(d: &[u8], v: &[u8], depth: usize) -> bool
     if depth == 0 {
         return false;
     }
-    let from = object_head(d, v);
-    if from == 0 {
+    let Some(from) = object_head(d, v) else {
         return false;
-    }
+    };
     values_ok(d, &v[from..], depth - 1)
 }
 
@@ -60,10 +58,9 @@ fn values_ok(d: &[u8], v: &[u8], depth: usize) -> bool
 {
     let mut at = 0;
     while at < v.len() {
-        let n = value_length(&v[at..]).unwrap_or(0);
-        if n == 0 {
-            break;
-        }
+        let Some(n) = value_length(&v[at..]) else {
+            return false;
+        };
         let next = at + n;
         let part = &v[at..next];
         let ok = match v[at] % 4 {

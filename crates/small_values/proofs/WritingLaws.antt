@@ -2,7 +2,7 @@
 use mathlib.Core.Path.{◌≡◌, refl, sym, ◌∙◌, ap}
 use mathlib.Core.Bool.{Bool, true, false, not, ◌&&◌, ◌||◌, true≢false}
 use mathlib.Core.List.{List, [], ◌∷◌, ◌++◌, map, append-nil}
-use Prim.Native.Nat.{ℕ, zero, suc, ◌+◌, ◌-◌, ◌/◌, ◌%◌, ◌^◌, ◌≤◌, ◌<◌}
+use Prim.Native.Nat.{ℕ, zero, suc, ◌+◌, ◌-◌, ◌/◌, ◌%◌, ◌^◌, ◌≤◌, ◌<◌, ◌*◌}
 use native.Mathlib.Omega.{arith}
 use lib.Dec.{eqb, leb, ltb}
 use lib.ListN.{length, take, drop, get_or, length-append}
@@ -27,7 +27,13 @@ use Rattle.batch.specs.declared.AddError.{AddError}
 use Rattle.batch.specs.Layout.{record_of, record_bytes, records_bytes, batch_bytes, count_of}
 use Rattle.batch.specs.Writing.{no_batch, add_rows, Adds, start_rows, Starts}
 use Rattle.batch.proofs.WritingLaws.{length_record, no_batch_used, version_one}
-use Rattle.small_values.specs.declared.SmallValues.TheVariants.{Written, BadLength, NoRoom}
+use mir.Syntax.{w32}
+use Rattle.std.specs.Int.{to_be_bytes}
+use Rattle.std.specs.Prelude.{Result, Ok, Err}
+use Rattle.reader.specs.declared.errors.ReadError.{ReadError}
+use Rattle.reader.specs.declared.errors.ReadError.TheVariants.{BadDictionary, BadValue}
+use Rattle.reader.specs.Answers.{number_of}
+use Rattle.small_values.specs.declared.SmallError.TheVariants.{BadLength, NoRoom}
 use Rattle.small_values.specs.Small.{up_from, accepted, keep, values_of, file_of, small_rows, WritesSmall}
 use Rattle.small_values.proofs.DigitLaws.{digits, strings_are}
 
@@ -100,6 +106,12 @@ pub taken : (v : List ℕ) {n : ℕ} → n ≡ first (pair_rows never_used v) �
 unfolding accepted
 taken v e z = is_accepted v (eq-eqb (first (pair_rows never_used v)) 0 (sym e ∙ z))
 
+-- a refusal's number is above 0
+pub refusal : (r : Result (Unit {0}) ReadError) → ((x : Unit {0}) → r ≡ Ok x → ⊥) → number_of r ≡ 0 → ⊥
+refusal (Ok x) h z = h x refl
+refusal (Err BadDictionary) h z = absurd (omega arith)
+refusal (Err BadValue) h z = absurd (omega arith)
+
 -- ---- what `add_value` leaves
 
 pub none_added : (out v : List ℕ) (used : ℕ) → bytes_of v ≡ [] → (used ≡ used + length (bytes_of v)) × (out ≡ write used (bytes_of v) out)
@@ -126,14 +138,21 @@ one_room v used size h e = rw (ap length e ∙ record_size v) at h
 
 -- ---- string n
 
-pub string_is : (k n : ℕ) {a b c : ℕ} → 1 ≤ k → k ≤ 3 → a ≡ n / 2 ^ 16 % 256 → b ≡ n / 2 ^ 8 % 256 → c ≡ n % 256
-    → take (3 - (3 - k)) (drop (3 - k) (a ∷ (b ∷ (c ∷ [])))) ≡ digits k n
+-- how many strings there are
+pub count_is : (k : ℕ) → 1 ≤ k → k ≤ 3 → 1 * 2 ^ (8 * k) % 4294967296 ≡ 256 ^ k
+count_is zero h l = absurd (omega arith)
+count_is (suc zero) h l = refl
+count_is (suc (suc zero)) h l = refl
+count_is (suc (suc (suc zero))) h l = refl
+count_is (suc (suc (suc (suc k)))) h l = absurd (omega arith)
+
+pub string_is : (k n : ℕ) → 1 ≤ k → k ≤ 3 → take (4 - (4 - k)) (drop (4 - k) (to_be_bytes w32 n)) ≡ digits k n
 unfolding digits
-string_is zero n h l p q r = absurd (omega arith)
-string_is (suc zero) n h l p q r = let e : n / 1 ≡ n = omega arith in rw (r, e)
-string_is (suc (suc zero)) n h l p q r = let e : n / 1 ≡ n = omega arith in rw (q, r, e)
-string_is (suc (suc (suc zero))) n h l p q r = let e : n / 1 ≡ n = omega arith in rw (p, q, r, e)
-string_is (suc (suc (suc (suc k)))) n h l p q r = absurd (omega arith)
+string_is zero n h l = absurd (omega arith)
+string_is (suc zero) n h l = let e : n / 1 ≡ n = omega arith in rw e
+string_is (suc (suc zero)) n h l = let e : n / 1 ≡ n = omega arith in rw e
+string_is (suc (suc (suc zero))) n h l = let e : n / 1 ≡ n = omega arith in rw e
+string_is (suc (suc (suc (suc k)))) n h l = absurd (omega arith)
 
 length_digits : (k n : ℕ) → length (digits k n) ≡ k
 unfolding digits
@@ -228,7 +247,7 @@ left_end {out = out} {k = k} {used = used} {n = n} s h =
 
 -- ---- the answers
 
-pub small_bad : (n : ℕ) (out : List ℕ) → (leb 1 n && leb n 3) ≡ false → WritesSmall n out BadLength out
+pub small_bad : (n : ℕ) (out : List ℕ) → (leb 1 n && leb n 3) ≡ false → WritesSmall n out (Err BadLength) out
 unfolding first
 small_bad n out e = record { number = rw e; written = refl; bytes = refl }
 
@@ -238,7 +257,7 @@ too_short n h = rw (lt-leb 1 n h)
 pub too_long_lem : (n : ℕ) → 3 < n → (leb 1 n && leb n 3) ≡ false
 too_long_lem n h = rw (le-leb 1 n (omega arith), lt-leb n 3 h)
 
-pub small_no_room : (n s : ℕ) (out : List ℕ) → 1 ≤ n → n ≤ 3 → s ≡ length (file_of n) → length out < s → WritesSmall n out NoRoom out
+pub small_no_room : (n s : ℕ) (out : List ℕ) → 1 ≤ n → n ≤ 3 → s ≡ length (file_of n) → length out < s → WritesSmall n out (Err NoRoom) out
 unfolding first
 small_no_room n s out a b e h =
     record { number = rw (le-leb 1 n a, le-leb n 3 b, lt-ltb (length out) (length (file_of n)) (omega arith)); written = refl; bytes = refl }
@@ -270,7 +289,7 @@ module _ (n : ℕ) (out started : List ℕ) {r : Placed} (h : length (file_of n)
       e ∙ (rw (started_is out started some s) (write_write out (1 ∷ []) rs 0 (omega (arith, file_length n))))
 
 pub small_written_lem : (n s : ℕ) (out after : List ℕ) → 1 ≤ n → n ≤ 3 → s ≡ length (file_of n) → s ≤ length out → after ≡ write 0 (file_of n) out
-    → WritesSmall n out (Written s) after
+    → WritesSmall n out (Ok s) after
 unfolding first
 small_written_lem n s out after a b e h w =
     record { number = rw (le-leb 1 n a, le-leb n 3 b, le-ltb (length out) (length (file_of n)) (omega arith)); written = e; bytes = w }

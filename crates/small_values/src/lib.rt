@@ -5,10 +5,9 @@ mod writing;
 
 pub use writing::write_small_values;
 
-// How many bytes were written; or that the length is none of 1, 2 and 3; or that they do not fit.
-#[derive(Clone, Copy)]
-pub enum SmallValues {
-    Written(usize),
+// Why nothing is written: the length is none of 1, 2 and 3; or the values do not fit.
+#[derive(Clone, Copy, PartialEq, Eq, Debug)]
+pub enum SmallError {
     BadLength,
     NoRoom,
 }

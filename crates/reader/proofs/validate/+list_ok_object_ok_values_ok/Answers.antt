@@ -15,32 +15,32 @@ use Rattle.reader.proofs.validate.+list_ok_object_ok_values_ok.Goals.{values_ok-
 pub list_ok-returns-then-depth-eq0 : goal.list_ok-returns-then-depth-eq0
 list_ok-returns-then-depth-eq0 t c = too_deep _ _ _ (omega (arith, c.requires)) c.if-depth-eq0.true
 
-pub list_ok-returns-then-from-eq0 : goal.list_ok-returns-then-from-eq0
-list_ok-returns-then-from-eq0 t c = list_headless _ _ c.requires c.if-depth-eq0.false c.list_head-from.ensures c.if-from-eq0.true
+pub list_ok-returns-in_default : goal.list_ok-returns-in_default
+list_ok-returns-in_default t c = list_headless _ _ c.requires c.if-depth-eq0.false (sym c.in_default.is ∙ c.list_head.ensures)
 
 pub list_ok-slice_bounds-values_ok-count : goal.list_ok-slice_bounds-values_ok-count
-list_ok-slice_bounds-values_ok-count t c = rw c.list_head-from.ensures (list_head_within _)
+list_ok-slice_bounds-values_ok-count t c = list_head_within _ (sym c.in-Some.is ∙ c.list_head.ensures)
 
 pub list_ok-slice_bounds-values_ok-start : goal.list_ok-slice_bounds-values_ok-start
-list_ok-slice_bounds-values_ok-start t c = rw c.list_head-from.ensures (list_head_within _)
+list_ok-slice_bounds-values_ok-start t c = list_head_within _ (sym c.in-Some.is ∙ c.list_head.ensures)
 
 pub list_ok-returns : goal.list_ok-returns
-list_ok-returns t c = list_headed _ _ c.requires c.if-depth-eq0.false c.list_head-from.ensures c.if-from-eq0.false c.values_ok.ensures
+list_ok-returns t c = list_headed _ _ c.requires c.if-depth-eq0.false (sym c.in-Some.is ∙ c.list_head.ensures) c.values_ok.ensures
 
 pub object_ok-returns-then-depth-eq0 : goal.object_ok-returns-then-depth-eq0
 object_ok-returns-then-depth-eq0 t c = too_deep _ _ _ (omega (arith, c.requires)) c.if-depth-eq0.true
 
-pub object_ok-returns-then-from-eq0 : goal.object_ok-returns-then-from-eq0
-object_ok-returns-then-from-eq0 t c = object_headless _ _ c.requires c.if-depth-eq0.false c.object_head-from.ensures c.if-from-eq0.true
+pub object_ok-returns-in_default : goal.object_ok-returns-in_default
+object_ok-returns-in_default t c = object_headless _ _ c.requires c.if-depth-eq0.false (sym c.in_default.is ∙ c.object_head.ensures)
 
 pub object_ok-slice_bounds-values_ok-count : goal.object_ok-slice_bounds-values_ok-count
-object_ok-slice_bounds-values_ok-count t c = rw c.object_head-from.ensures (object_head_within _ _)
+object_ok-slice_bounds-values_ok-count t c = object_head_within _ _ (sym c.in-Some.is ∙ c.object_head.ensures)
 
 pub object_ok-slice_bounds-values_ok-start : goal.object_ok-slice_bounds-values_ok-start
-object_ok-slice_bounds-values_ok-start t c = rw c.object_head-from.ensures (object_head_within _ _)
+object_ok-slice_bounds-values_ok-start t c = object_head_within _ _ (sym c.in-Some.is ∙ c.object_head.ensures)
 
 pub object_ok-returns : goal.object_ok-returns
-object_ok-returns t c = object_headed _ _ c.requires c.if-depth-eq0.false c.object_head-from.ensures c.if-from-eq0.false c.values_ok.ensures
+object_ok-returns t c = object_headed _ _ c.requires c.if-depth-eq0.false (sym c.in-Some.is ∙ c.object_head.ensures) c.values_ok.ensures
 
 pub values_ok-overflow_add-next : goal.values_ok-overflow_add-next
 values_ok-overflow_add-next t c = omega (arith, walks_room c.loop-at.invariant (length_or_zero _ _ _ c.value_length.ensures c.unwrap_or-n.ensures))

@@ -1,6 +1,6 @@
 -- Numbers in a row: each as it is read, and those that are left decide as all of them do.
 use mathlib.Core.Path.{◌≡◌, refl, sym, ◌∙◌, ap}
-use mathlib.Core.Bool.{Bool, true, false, ◌&&◌}
+use mathlib.Core.Bool.{Bool, true, false, not, ◌&&◌, false≢true}
 use mathlib.Core.List.{List, [], ◌∷◌, map}
 use Prim.Native.Nat.{ℕ, suc, ◌+◌, ◌-◌, ◌*◌, ◌≤◌, ◌<◌, min}
 use native.Mathlib.Nat.{mul-le-mul_right}
@@ -12,13 +12,15 @@ use borrow.Author.Tests.{eq-eqb, ne_eqb, eqb-true, eqb-false, lt-ltb, le-ltb}
 use Rattle.metadata.specs.Names.{Name, same, below, ascending}
 use Rattle.metadata.specs.Bytes.{numbers}
 use Rattle.container.specs.Sort.{name_at}
-use Rattle.measure.specs.Measure.{measured, number_at, Numbered}
+use Rattle.std.specs.Prelude.{Option, Some, None}
+use Rattle.std.specs.Option.{is_some}
+use Rattle.measure.specs.Measure.{measured, number_at, Numbered, some_length}
 use Rattle.lexicon.proofs.ByteLaws.{length_numbers}
 use Rattle.lexicon.proofs.NameLaws.{end_at, numbered}
 use Rattle.lexicon.specs.Dictionary.{each_below}
 use Rattle.grammar.specs.Tests.{starts_of}
 use Rattle.header_reader.specs.Windows.{starts_at}
-use Rattle.header_reader.proofs.StartLaws.{starts_none, starts_more, walked, walked_within}
+use Rattle.header_reader.proofs.StartLaws.{starts_none, starts_more, walked, walked_none, walked_within}
 
 -- no place overflows
 pub row_small : {w n : ℕ} → w ≤ 4 → n ≤ 4294967296 → w * n ≤ 17179869184
@@ -70,17 +72,16 @@ unfolding starts_at starts_of
 beside_start vs ns = record { alike = refl; high = omega arith }
 
 module _ {r : Bool} {vs : List ℕ} {at : ℕ} {all : List ℕ} (i : Beside r vs at all) where
-  -- the next value, as the code measures it
-  pub beside_value : {n : ℕ} → n ≡ measured (take (length vs - at) (drop at vs)) → n ≡ measured (drop at vs)
-  beside_value e = walked vs at e
-
-  pub beside_within : {n : ℕ} → n ≡ measured (take (length vs - at) (drop at vs)) → at + n ≤ length vs
-  beside_within e = walked_within vs at _ i.high (walked vs at e)
+  pub beside_within : {n : ℕ} → Some n ≡ some_length (measured (take (length vs - at) (drop at vs))) → at + n ≤ length vs
+  beside_within e = walked_within vs at _ i.high (walked vs at e).0
 
   module _ {e : ℕ} {ns : List ℕ} (f : all ≡ e ∷ ns) where
-    pub beside_none : measured (drop at vs) ≡ 0 → false ≡ r
+    beside_stop : measured (drop at vs) ≡ 0 → false ≡ r
     unfolding same
-    beside_none z = rw (f, starts_none vs at z) at i.alike
+    beside_stop z = rw (f, starts_none vs at z) at i.alike
+
+    pub beside_none : None ≡ some_length (measured (take (length vs - at) (drop at vs))) → false ≡ r
+    beside_none e = beside_stop (walked_none vs at e)
 
     beside_next : {n : ℕ} → n ≡ measured (drop at vs) → 0 < n → (eqb e at && same ns (starts_at vs (at + n))) ≡ r
     unfolding same
@@ -90,21 +91,24 @@ module _ {r : Bool} {vs : List ℕ} {at : ℕ} {all : List ℕ} (i : Beside r vs
     beside_other g = go (eqb (measured (drop at vs)) 0) refl
       where
         go : (t : Bool) → eqb (measured (drop at vs)) 0 ≡ t → false ≡ r
-        go true z = beside_none (eqb-true (measured (drop at vs)) 0 z)
+        go true z = beside_stop (eqb-true (measured (drop at vs)) 0 z)
         go false z =
             let y = eqb-false (measured (drop at vs)) 0 z in
             rw (ne_eqb e at g) at (beside_next {n = measured (drop at vs)} refl (omega arith))
 
-    pub beside_again : {n : ℕ} → n ≡ measured (drop at vs) → 0 < n → e ≡ at → Beside r vs (at + n) ns
-    beside_again {n} g k q = record { alike = rw (eq-eqb e at q) at (beside_next {n = n} g k); high = walked_within vs at n i.high g }
+    pub beside_again : {n : ℕ} → Some n ≡ some_length (measured (take (length vs - at) (drop at vs))) → e ≡ at → Beside r vs (at + n) ns
+    beside_again {n} s q = let g = (walked vs at s).0 in let k = (walked vs at s).1 in record { alike = rw (eq-eqb e at q) at (beside_next {n = n} g k); high = walked_within vs at n i.high g }
 
-  pub beside_end : {n : ℕ} → all ≡ [] → n ≡ measured (drop at vs) → eqb n 0 ≡ r
+  -- whether a value is left
+  pub beside_end : {o : Option ℕ} {t : Bool} → all ≡ [] → o ≡ some_length (measured (take (length vs - at) (drop at vs))) → is_some o ≡ not t → t ≡ r
   unfolding same
-  beside_end {n} f g = go (eqb n 0) refl
+  beside_end {o} {t} f g q = go o t g q
     where
-      go : (t : Bool) → eqb n 0 ≡ t → t ≡ r
-      go true z = rw (f, starts_none vs at (sym g ∙ eqb-true n 0 z)) at i.alike
-      go false z = let y = eqb-false n 0 z in rw (f, starts_more vs at n g (omega arith)) at i.alike
+      go : (o : Option ℕ) (t : Bool) → o ≡ some_length (measured (take (length vs - at) (drop at vs))) → is_some o ≡ not t → t ≡ r
+      go None true e z = rw (f, starts_none vs at (walked_none vs at e)) at i.alike
+      go (Some n) false e z = let w = walked vs at e in rw (f, starts_more vs at n w.0 w.1) at i.alike
+      go None false e z = absurd (false≢true z)
+      go (Some n) true e z = absurd (false≢true (sym z))
 
 -- ---- ids of ascending names
 

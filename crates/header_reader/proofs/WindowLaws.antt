@@ -9,13 +9,13 @@ use lib.ListN.{length, take, drop, get_or, set, length-set}
 use lib.Seq.{drop-cons, drop-length, get_or-set_same, get_or-set_other}
 use borrow.Author.Tests.{ne_eqb, eqb-true, eqb-false, leb-true, le-leb, lt-leb, ltb-true, ltb-false, lt-ltb, le-ltb}
 use Rattle.std.specs.Prelude.{Option, Some, None}
-use Rattle.measure.specs.Measure.{measured}
+use Rattle.measure.specs.Measure.{measured, some_length}
 use Rattle.measure.proofs.MeasureLaws.{measured_none}
 use Rattle.lexicon.specs.Dictionary.{each_below}
 use Rattle.grammar.specs.Grammar.{among, starting}
 use Rattle.grammar.specs.Tests.{starts_of}
 use Rattle.header_reader.specs.Windows.{starts_at, inside, starting_by, is_start, marked, Reached, Marks, Takes, Window}
-use Rattle.header_reader.proofs.StartLaws.{starts_none, walked, walked_within, start_low, start_high, among_more}
+use Rattle.header_reader.proofs.StartLaws.{starts_none, walked, walked_none, walked_within, start_low, start_high, among_more}
 
 -- ---- tests
 
@@ -164,19 +164,21 @@ marking_start {lo = lo} w e f =
     }
 
 module _ {vs : List ℕ} {lo hi : ℕ} {cells : List ℕ} {at : ℕ} (m : Marking vs lo hi cells at) where
-  -- the next value, as the code measures it
-  pub marking_value : {n : ℕ} → n ≡ measured (take (length vs - at) (drop at vs)) → n ≡ measured (drop at vs)
-  marking_value e = walked vs at e
+  module _ {n : ℕ} (g : Some n ≡ some_length (measured (take (length vs - at) (drop at vs)))) where
+    e : n ≡ measured (drop at vs)
+    e = (walked vs at g).0
 
-  pub marking_within : {n : ℕ} → n ≡ measured (take (length vs - at) (drop at vs)) → at + n ≤ length vs
-  marking_within e = walked_within vs at _ m.high (walked vs at e)
+    pub marking_more : 0 < n
+    marking_more = (walked vs at g).1
 
-  module _ {n : ℕ} (e : n ≡ measured (drop at vs)) where
-    pub marking_again : at < hi → 0 < n → Marking vs lo hi (set cells (at - lo) 1) (at + n)
-    marking_again k h =
+    pub marking_within : at + n ≤ length vs
+    marking_within = walked_within vs at _ m.high e
+
+    pub marking_again : at < hi → Marking vs lo hi (set cells (at - lo) 1) (at + n)
+    marking_again k =
         record {
           same = λ x p q. next x p q (eqb x at) refl;
-          ahead = λ x p. sym (rw (ne_eqb x at (omega arith)) at (among_more vs at n x e h)) ∙ m.ahead x p;
+          ahead = λ x p. sym (rw (ne_eqb x at (omega arith)) at (among_more vs at n x e marking_more)) ∙ m.ahead x p;
           low = omega (arith, m.low);
           high = walked_within vs at n m.high e;
           size = rw (length-set cells (at - lo) 1) m.size;
@@ -188,7 +190,7 @@ module _ {vs : List ℕ} {lo hi : ℕ} {cells : List ℕ} {at : ℕ} (m : Markin
             let l = m.low in
             let s = m.size in
             let i : x - lo ≡ at - lo = omega arith in
-            let y : true ≡ is_start vs x = rw (among_more vs at n x e h, f, or_true (marked lo cells x)) at (m.same x p q) in
+            let y : true ≡ is_start vs x = rw (among_more vs at n x e marking_more, f, or_true (marked lo cells x)) at (m.same x p q) in
             rw (i, get_or-set_same cells (at - lo) 1 0 (omega arith)) y
           where
             or_true : (a : Bool) → (a || true) ≡ true
@@ -197,17 +199,17 @@ module _ {vs : List ℕ} {lo hi : ℕ} {cells : List ℕ} {at : ℕ} (m : Markin
         next x p q false f =
             let z = eqb-false x at f in
             let l = m.low in
-            rw (get_or-set_other cells (at - lo) (x - lo) 1 0 (λ i. z (omega arith))) (rw (among_more vs at n x e h, f) at (m.same x p q))
+            rw (get_or-set_other cells (at - lo) (x - lo) 1 0 (λ i. z (omega arith))) (rw (among_more vs at n x e marking_more, f) at (m.same x p q))
 
-    -- no whole value is left
-    pub marking_none : n ≡ 0 → hi ≤ length vs → Reached vs hi (length vs) × Marks (is_start vs) lo hi cells
-    unfolding among
-    marking_none z k =
-        let a = starts_none vs at (sym e ∙ z) in
-        let b = starts_none vs (length vs) (rw (drop-length vs) (sym (measured_none [] refl))) in (
-          record { low = omega arith; high = omega arith; ahead = λ x p. rw b (rw a at (m.ahead x p)) },
-          λ x p q. sym (or_none (marked lo cells x)) ∙ (rw a at (m.same x p q)),
-        )
+  -- no whole value is left
+  pub marking_none : None ≡ some_length (measured (take (length vs - at) (drop at vs))) → hi ≤ length vs → Reached vs hi (length vs) × Marks (is_start vs) lo hi cells
+  unfolding among
+  marking_none g k =
+      let a = starts_none vs at (walked_none vs at g) in
+      let b = starts_none vs (length vs) (rw (drop-length vs) (sym (measured_none [] refl))) in (
+        record { low = omega arith; high = omega arith; ahead = λ x p. rw b (rw a at (m.ahead x p)) },
+        λ x p q. sym (or_none (marked lo cells x)) ∙ (rw a at (m.same x p q)),
+      )
 
   pub marking_end : hi ≤ at → Reached vs hi at × Marks (is_start vs) lo hi cells
   marking_end h = (

@@ -12,9 +12,7 @@ use lexicon::read_dictionary;
 pub fn read_pair(d: &[u8], v: &[u8]) -> Result<(), ReadError>
     ensures { number_of result ≡ first (pair_rows d.now v.now) }
 {
-    if read_dictionary(d).is_err() {
-        return Err(ReadError::BadDictionary);
-    }
+    read_dictionary(d)?;
     if v.len() <= 4294967295 && value_ok(d, v, 64) {
         Ok(())
     } else {

@@ -59,7 +59,7 @@ fn values_ok(d: &[u8], v: &[u8], depth: usize) -> bool
     let mut at = 0;
     while at < v.len() {
         let Some(n) = value_length(&v[at..]) else {
-            return false;
+            break;
         };
         let next = at + n;
         let part = &v[at..next];

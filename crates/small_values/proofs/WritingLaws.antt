@@ -14,22 +14,27 @@ use Rattle.value.specs.Scalar.{type_of_byte}
 use Rattle.metadata.specs.Names.{Name, same, ascending}
 use Rattle.metadata.specs.Bytes.{never_used, dictionary_names}
 use Rattle.container.specs.Sort.{name_at}
-use Rattle.measure.specs.Measure.{measured}
+use Rattle.measure.specs.Measure.{measured, some_length}
 use Rattle.lexicon.specs.Dictionary.{each_below}
 use Rattle.lexicon.proofs.DictionaryLaws.{both}
 use Rattle.grammar.specs.Scalars.{outside}
 use Rattle.grammar.specs.Grammar.{starting}
 use Rattle.grammar.specs.Tests.{is_scalar, is_list_head, is_object_head, is_value, pair_rows}
 use Rattle.grammar.specs.Tests.{each_value, starts_of, stored_ids, list_offsets, list_from, object_offsets, object_from}
+use Rattle.grammar.proofs.LengthLaws.{length_same}
 use Rattle.reader.proofs.PairLaws.{pair_valid}
-use Rattle.std.specs.Prelude.{Result}
+use Rattle.reader.proofs.ValueLaws.{value_some}
 use Rattle.batch.specs.declared.AddError.{AddError}
+use Rattle.batch.specs.declared.AddError.TheVariants.{Damaged, NoBatch}
+use Rattle.batch.specs.declared.AddError.TheVariants as add_error
 use Rattle.batch.specs.Layout.{record_of, record_bytes, records_bytes, batch_bytes, count_of}
-use Rattle.batch.specs.Writing.{no_batch, add_rows, Adds, start_rows, Starts}
+use Rattle.batch.specs.Writing.{no_batch, add_rows, added_at, added_number, Adds, start_rows, Starts}
 use Rattle.batch.proofs.WritingLaws.{length_record, no_batch_used, version_one}
 use mir.Syntax.{w32}
 use Rattle.std.specs.Int.{to_be_bytes}
-use Rattle.std.specs.Prelude.{Result, Ok, Err}
+use Rattle.std.specs.Prelude.{Option, Some, None, Result, Ok, Err}
+use Rattle.std.specs.Option.{option_eq}
+use Rattle.std.specs.Result.{result_unwrap_or}
 use Rattle.reader.specs.declared.errors.ReadError.{ReadError}
 use Rattle.reader.specs.declared.errors.ReadError.TheVariants.{BadDictionary, BadValue}
 use Rattle.reader.specs.Answers.{number_of}
@@ -90,13 +95,17 @@ pub is_accepted : (v : List ℕ) → accepted v ≡ true → bytes_of v ≡ reco
 unfolding keep records_bytes
 is_accepted v e = rw e (append-nil (record_bytes (record_of never_used v)))
 
-pub other_length : (v : List ℕ) {n : ℕ} → n ≡ measured v → (n ≡ length v → ⊥) → bytes_of v ≡ []
+pub other_length : (v : List ℕ) {o : Option ℕ} → o ≡ some_length (measured v) → option_eq eqb o (Some (length v)) ≡ false → bytes_of v ≡ []
 unfolding accepted
-other_length v {n} e h = not_accepted v (go (accepted v) refl)
+other_length v {o} e f = not_accepted v (go (accepted v) refl)
   where
     go : (t : Bool) → accepted v ≡ t → accepted v ≡ false
     go false p = p
-    go true p = absurd (h (e ∙ value_measured (dictionary_names never_used) 63 v (pair_valid never_used v refl (eqb-true (first (pair_rows never_used v)) 0 p))))
+    go true p =
+        let i = pair_valid never_used v refl (eqb-true (first (pair_rows never_used v)) 0 p) in
+        let m = eq-eqb (measured v) (length v) (value_measured (dictionary_names never_used) 63 v i) in
+        let q = length_same (measured v) (length v) {o = o} (value_some (dictionary_names never_used) 64 v i) e refl in
+        absurd (true≢false (sym m ∙ (sym q ∙ f)))
 
 pub refused : (v : List ℕ) {n : ℕ} → n ≡ first (pair_rows never_used v) → (n ≡ 0 → ⊥) → bytes_of v ≡ []
 unfolding accepted
@@ -120,21 +129,24 @@ none_added out v used e = (rw e (omega arith), rw e (write_none out used))
 record_size : (v : List ℕ) → length (record_bytes (record_of never_used v)) ≡ 11 + length v
 record_size v = length_record (record_of never_used v) ∙ (omega arith)
 
-pub one_added : (out after v : List ℕ) (used : ℕ) {r : Result ℕ AddError} → 1 ≤ used → get_or out 0 0 ≡ 1 → length v ≤ 3 → used + length (bytes_of v) ≤ length out
+pub one_added : (out after v : List ℕ) (used : ℕ) {r : Result ℕ AddError} {n : ℕ} → 1 ≤ used → get_or out 0 0 ≡ 1 → length v ≤ 3 → used + length (bytes_of v) ≤ length out
     → bytes_of v ≡ record_bytes (record_of never_used v) → Adds out used (record_of never_used v) r after
-    → (used + (11 + length v) ≡ used + length (bytes_of v)) × (after ≡ write used (bytes_of v) out)
+    → n ≡ result_unwrap_or r used → (n ≡ used + length (bytes_of v)) × (after ≡ write used (bytes_of v) out)
 unfolding first
-one_added out after v used b f n h e a =
+one_added out after v used {r} b f l h e a u =
     let x = record_of never_used v in
     let s = record_size v in
     let room : used + length (record_bytes x) ≤ length out = rw e at h in
     let nb : no_batch (take used out) ≡ false = no_batch_used used out (omega arith) ∙ version_one out (omega arith) f in
     let z : first (add_rows out used x) ≡ 0 =
     rw (le-ltb (length out) used (omega arith), nb, lt-leb (256 ^ 4) (count_of x) (omega arith), le-ltb (length out) (used + length (record_bytes x)) room) in
-    (rw (e, s), rw e (rw z at a.bytes))
-
-pub one_room : (v : List ℕ) (used size : ℕ) → used + length (bytes_of v) ≤ size → bytes_of v ≡ record_bytes (record_of never_used v) → used + (11 + length v) ≤ size
-one_room v used size h e = rw (ap length e ∙ record_size v) at h
+    (u ∙ (rw e (go r (rw z at a.number) (rw z at a.used_then))), rw e (rw z at a.bytes))
+  where
+    go : (r : Result ℕ AddError) {size : ℕ} → added_number r ≡ 0 → added_at r ≡ used + size → result_unwrap_or r used ≡ used + size
+    go (Ok n) k q = q
+    go (Err Damaged) k q = absurd (omega arith)
+    go (Err NoBatch) k q = absurd (omega arith)
+    go (Err add_error.NoRoom) k q = absurd (omega arith)
 
 -- ---- string n
 

@@ -73,6 +73,5 @@ fn add_value(out: &mut [u8], used: usize, string: &[u8]) -> usize
     let Ok(()) = read_pair(b"\x01\x00\x00", string) else {
         return used;
     };
-    add(out, used, b"\x01\x00\x00", string);
-    used + (11 + string.len())
+    add(out, used, b"\x01\x00\x00", string).unwrap_or(used)
 }

@@ -45,7 +45,7 @@ impl<'a> Numbers<'a> {
         self.left
     }
 
-    // Number k of them, 0 where there is none.
+    // Number k of them, 0 where there is none, as the definition has it: callers ask below `len`.
     pub(crate) fn get(&self, k: usize) -> usize
         ensures { (result ≡ get_or self.now k 0) × (result < 4294967296) }
     {

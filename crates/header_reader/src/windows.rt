@@ -27,7 +27,8 @@ pub(crate) fn are_apart(header: &Header, values: &[u8]) -> bool
     }
 }
 
-// Of the numbers below the values' size, by as many cells as are lent.
+// Of the numbers below the values' size, by so many cells. A `while`: the last window is shorter, and the walk's place goes from one to the
+// next.
 fn by_windows<const CELLS: usize>(offsets: &Numbers, values: &[u8]) -> bool
     requires { (0 < CELLS) × (CELLS ≤ 4096) }
     ensures { result ≡ starting_in values.now offsets.now }
@@ -67,7 +68,8 @@ fn by_window(
     }
 }
 
-// Marks where values start, from lo on, as far as there are cells; where the walk stands behind them.
+// Marks where values start, from lo on, as far as there are cells; where the walk stands behind them. A `while`, since each step is a stored
+// length.
 fn mark_starts(cells: &mut [u8], values: &[u8], lo: usize, at: usize) -> usize
     requires cells_in_bounds { (lo + length cells.old ≤ length values.now) × Reached values.now lo at }
     requires by_index { (i : ℕ) → get_or cells.old i 0 ≡ 0 }

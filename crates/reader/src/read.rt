@@ -8,7 +8,8 @@ use crate::ReadError;
 use crate::validate::value_ok;
 use lexicon::read_dictionary;
 
-// A bad dictionary, which is judged first; else a value outside the grammar.
+// A bad dictionary, which is judged first; else a value outside the grammar. The two slices stay apart, as the C calls lend them: a struct of both
+// would be made and taken apart at each call.
 pub fn read_pair(d: &[u8], v: &[u8]) -> Result<(), ReadError>
     ensures { number_of result ≡ first (pair_rows d.now v.now) }
 {

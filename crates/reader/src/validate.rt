@@ -51,7 +51,8 @@ fn object_ok(d: &[u8], v: &[u8], depth: usize) -> bool
     values_ok(d, &v[from..], depth - 1)
 }
 
-// Is a container's data whole values end to end? A scalar is judged where it stands; a list or an object by its own function.
+// Is a container's data whole values end to end? A scalar is judged where it stands; a list or an object by its own function. A `while`, since each
+// step is a stored length, and where the walk ends decides.
 #[cycle(list_ok_object_ok_values_ok)]
 fn values_ok(d: &[u8], v: &[u8], depth: usize) -> bool
     ensures { result ≡ each_value (is_value (dictionary_names d.now) depth) (length v.now) v.now }

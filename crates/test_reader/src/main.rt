@@ -40,21 +40,17 @@ fn main(rt: HostRuntime) -> io::Result<()> {
 fn case<W: Write>(to: &mut W, label: &[u8], d: &[u8], v: &[u8]) -> io::Result<()> {
     print::text(to, label)?;
     print::text(to, b": ")?;
-    let number = match read_pair(d, v) {
+    let refusal = match read_pair(d, v) {
         Ok(()) => 0,
         Err(error) => error.number(),
     };
-    decimal(to, u64::from(number))?;
+    decimal(to, u64::from(refusal))?;
     named(to, v, find_field(d, v, b"a"))?;
     number(to, first_integer(d, v))?;
     print::text(to, b"\n")
 }
 
-fn named<W: Write>(
-    to: &mut W,
-    v: &[u8],
-    place: Result<Option<Part>, ReadError>,
-) -> io::Result<()> {
+fn named<W: Write>(to: &mut W, v: &[u8], place: Result<Option<Part>, ReadError>) -> io::Result<()> {
     match place {
         Ok(Some(part)) => {
             print::text(to, b", a from ")?;
@@ -73,10 +69,7 @@ fn named<W: Write>(
     Ok(())
 }
 
-fn number<W: Write>(
-    to: &mut W,
-    first: Result<Option<IntegerField>, ReadError>,
-) -> io::Result<()> {
+fn number<W: Write>(to: &mut W, first: Result<Option<IntegerField>, ReadError>) -> io::Result<()> {
     match first {
         Ok(Some(IntegerField { id, number })) => {
             print::text(to, b", id ")?;

@@ -8,7 +8,7 @@ use lib.Dec.{eqb, leb, ltb}
 use lib.ListN.{length, take, drop, get_or, length-append}
 use borrow.Author.Tests.{lt-leb, le-leb, lt-ltb, le-ltb, ne_eqb, eq-eqb, eqb-true}
 use Rattle.encoding.specs.Rows.{first, order, in_order}
-use Rattle.encoding.specs.Slices.{Placed, write}
+use Rattle.encoding.specs.Slices.{Placed, placed_number, write}
 use Rattle.encoding.proofs.SliceLaws.{length_write, write_none, write_write}
 use Rattle.value.specs.Scalar.{type_of_byte}
 use Rattle.metadata.specs.Names.{Name, same, ascending}
@@ -32,7 +32,7 @@ use Rattle.batch.specs.Writing.{no_batch, add_rows, added_at, added_number, Adds
 use Rattle.batch.proofs.WritingLaws.{length_record, no_batch_used, version_one}
 use mir.Syntax.{w32}
 use Rattle.std.specs.Int.{to_be_bytes}
-use Rattle.std.specs.Prelude.{Option, Some, None, Result, Ok, Err}
+use Rattle.std.specs.Prelude.{Option, Some, Result, Ok, Err}
 use Rattle.std.specs.Option.{option_eq}
 use Rattle.std.specs.Result.{result_unwrap_or}
 use Rattle.reader.specs.declared.errors.ReadError.{ReadError}
@@ -95,7 +95,7 @@ pub is_accepted : (v : List ℕ) → accepted v ≡ true → bytes_of v ≡ reco
 unfolding keep records_bytes
 is_accepted v e = rw e (append-nil (record_bytes (record_of never_used v)))
 
-pub other_length : (v : List ℕ) {o : Option ℕ} → o ≡ some_length (measured v) → option_eq eqb o (Some (length v)) ≡ false → bytes_of v ≡ []
+pub other_length : (v : List ℕ) {o : Option ℕ} → o ≡ some_length (measured v) → not (option_eq eqb o (Some (length v))) ≡ true → bytes_of v ≡ []
 unfolding accepted
 other_length v {o} e f = not_accepted v (go (accepted v) refl)
   where
@@ -105,7 +105,7 @@ other_length v {o} e f = not_accepted v (go (accepted v) refl)
         let i = pair_valid never_used v refl (eqb-true (first (pair_rows never_used v)) 0 p) in
         let m = eq-eqb (measured v) (length v) (value_measured (dictionary_names never_used) 63 v i) in
         let q = length_same (measured v) (length v) {o = o} (value_some (dictionary_names never_used) 64 v i) e refl in
-        absurd (true≢false (sym m ∙ (sym q ∙ f)))
+        absurd (true≢false (sym f ∙ ap not (q ∙ m)))
 
 pub refused : (v : List ℕ) {n : ℕ} → n ≡ first (pair_rows never_used v) → (n ≡ 0 → ⊥) → bytes_of v ≡ []
 unfolding accepted
@@ -140,13 +140,13 @@ one_added out after v used {r} b f l h e a u =
     let nb : no_batch (take used out) ≡ false = no_batch_used used out (omega arith) ∙ version_one out (omega arith) f in
     let z : first (add_rows out used x) ≡ 0 =
     rw (le-ltb (length out) used (omega arith), nb, lt-leb (256 ^ 4) (count_of x) (omega arith), le-ltb (length out) (used + length (record_bytes x)) room) in
-    (u ∙ (rw e (go r (rw z at a.number) (rw z at a.used_then))), rw e (rw z at a.bytes))
+    (u ∙ (rw e (go r (length (record_bytes x)) (rw z at a.number) (rw z at a.used_then))), rw e (rw z at a.bytes))
   where
-    go : (r : Result ℕ AddError) {size : ℕ} → added_number r ≡ 0 → added_at r ≡ used + size → result_unwrap_or r used ≡ used + size
-    go (Ok n) k q = q
-    go (Err Damaged) k q = absurd (omega arith)
-    go (Err NoBatch) k q = absurd (omega arith)
-    go (Err add_error.NoRoom) k q = absurd (omega arith)
+    go : (r : Result ℕ AddError) (size : ℕ) → added_number r ≡ 0 → added_at r ≡ used + size → result_unwrap_or r used ≡ used + size
+    go (Ok n) size k q = q
+    go (Err Damaged) size k q = absurd (omega arith)
+    go (Err NoBatch) size k q = absurd (omega arith)
+    go (Err add_error.NoRoom) size k q = absurd (omega arith)
 
 -- ---- string n
 
@@ -286,6 +286,10 @@ started_is out started h s = rw (start_clear out h) at s.bytes
 module _ (n : ℕ) (out started : List ℕ) {r : Placed} (h : length (file_of n) ≤ length out) (s : Starts out r started) where
   some : 1 ≤ length out
   some = omega (arith, file_length n)
+
+  -- so that it is not refused
+  pub started_good : placed_number r ≡ 0
+  started_good = s.number ∙ start_clear out some
 
   pub started_version : get_or started 0 0 ≡ 1
   unfolding write

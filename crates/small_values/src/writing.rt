@@ -21,7 +21,7 @@ pub fn write_small_values(length: usize, out: &mut [u8]) -> Result<usize, SmallE
     if out.len() < size {
         return Err(SmallError::NoRoom);
     }
-    start(out);
+    start(out)?;
     write_records(length, out);
     Ok(size)
 }

@@ -1,8 +1,5 @@
 -- No record where a test fails; else the record, for which there is room.
-use mathlib.Core.Path.{◌≡◌, refl}
-use native.Mathlib.Omega.{arith}
-use Prim.Native.Nat.{◌+◌, ◌≤◌}
-use lib.ListN.{length}
+use mathlib.Core.Path.{◌≡◌, refl, sym, ◌∙◌}
 use Rattle.batch.specs.Layout.{record_bytes, record_of}
 use Rattle.metadata.specs.Bytes.{never_used}
 use Rattle.small_values.proofs.WritingLaws.{bytes_of, other_length, refusal, refused, taken, none_added, one_added}
@@ -15,7 +12,7 @@ value : (c : In-Ok) → let v = c.args.string.now in
 value c = taken _ c.in-Ok.ensures refl
 
 pub returns-then-ne : goal.returns-then-ne
-returns-then-ne c = let x = c.ne.ensures in ?
+returns-then-ne c = none_added _ _ _ (other_length _ c.value_length.ensures (sym c.ne.ensures ∙ c.if-ne.true))
 
 pub returns-in_default : goal.returns-in_default
 returns-in_default c = none_added _ _ _ (refused _ c.read_pair.ensures (refusal _ c.in_default.not-Ok))

@@ -3,7 +3,7 @@ use native.Mathlib.Omega.{arith}
 use Prim.Native.Nat.{◌≤◌}
 use lib.ListN.{length}
 use Rattle.small_values.specs.Small.{file_of}
-use Rattle.small_values.proofs.WritingLaws.{small_bad, too_short, too_long_lem, small_no_room, small_written_lem, started_version, started_room, file_written}
+use Rattle.small_values.proofs.WritingLaws.{small_bad, too_short, too_long_lem, small_no_room, small_written_lem, started_good, started_version, started_room, file_written}
 use Rattle.small_values.proofs.writing.write_small_values.Goals as goal
 use Rattle.small_values.proofs.writing.write_small_values.Goals.{Else-out-size, then-length-lt1-via-then-length-lt1, then-length-lt1-via-else-length-lt1+then-length-gt3}
 
@@ -20,6 +20,11 @@ returns-then-length-lt1 c =
 
 pub returns-then-out-size : goal.returns-then-out-size
 returns-then-out-size c = small_no_room _ _ _ (omega arith) c.if-length-gt3.false c.file_size-size.ensures c.if-out-size.true
+
+pub returns-in_err-start : goal.returns-in_err-start
+returns-in_err-start c =
+    let z = started_good _ _ _ (room (goal.at.returns-in_err-start c).Else-out-size) c.start.ensures in
+    absurd (omega (arith, rw c.in_err-start.was at z))
 
 pub write_records-requires : goal.write_records-requires
 write_records-requires c =

@@ -57,9 +57,6 @@ pub empty_file : (file : List ℕ) → length file ≡ 0 → no_batch file ≡ t
 empty_file [] h = refl
 empty_file (b ∷ file) h = absurd (omega arith)
 
-pub other_version : (file : List ℕ) → 0 < length file → (get_or file 0 0 ≡ 1 → ⊥) → no_batch file ≡ true
-other_version file h n = version_first file h ∙ (rw (ne_eqb (get_or file 0 0) 1 n))
-
 pub version_one : (file : List ℕ) → 0 < length file → get_or file 0 0 ≡ 1 → no_batch file ≡ false
 version_one file h e = version_first file h ∙ (rw (eq-eqb (get_or file 0 0) 1 e))
 

@@ -26,6 +26,9 @@ use Rattle.encoding.specs.declared.slices.NoRoom as room
 use Rattle.path_words.specs.Descent.{path_in}
 use Rattle.path_words.specs.Writing.{WritesWords}
 use Rattle.path_words.proofs.DescentLaws.{words_read}
+use Rattle.reader.specs.declared.errors.ReadError.{ReadError}
+use Rattle.reader.specs.Answers.{error_number}
+use Rattle.reader.proofs.AnswerLaws.{told}
 use Rattle.finder.specs.declared.find.FindError.TheVariants.{Read, Missing, NoRoom}
 use Rattle.finder.specs.Finds.{order_with_missing, find_rows, FindsText}
 
@@ -56,18 +59,20 @@ pair_passed d v rs = go (not (is_dictionary d)) (not (leb (length v) most_bytes 
 -- ---- the answers
 
 module _ (d v wanted out : List ℕ) where
-  pub find_refused : {n : ℕ} → n ≡ first (pair_rows d v) → (n ≡ 0 → ⊥) → FindsText d v wanted out (Err (Read n)) out
-  find_refused {n} e z =
+  pub find_refused : {x : ReadError} → error_number x ≡ first (pair_rows d v) → FindsText d v wanted out (Err (Read x)) out
+  find_refused {x} e =
+      let n = error_number x in
+      let z = told x in
       let q = ne_eqb n 0 z in
       record {
         said = none;
-        says = λ w mark names t x. absurd (z (e ∙ reads_pair x));
+        says = λ w mark names t y. absurd (z (e ∙ reads_pair y));
         number = pair_first d v _ n e z;
         written = rw q;
         bytes = rw q;
       }
 
-  module _ {n : ℕ} (e : n ≡ first (pair_rows d v)) (z : n ≡ 0) where
+  module _ (e : 0 ≡ first (pair_rows d v)) where
     -- the least place, or the value's length
     abbrev p : ℕ
     p = least_in most_containers wanted (length v) v
@@ -90,7 +95,7 @@ module _ (d v wanted out : List ℕ) where
         record {
           said = none;
           says = λ w mark names t x. sym u ∙ says_at w mark names t x;
-          number = pair_passed d v (row 25 true ∷ row 14 (not (fits 0 0 (length out))) ∷ []) (sym e ∙ z);
+          number = pair_passed d v (row 25 true ∷ row 14 (not (fits 0 0 (length out))) ∷ []) (sym e);
           written = refl;
           bytes = refl;
         }
@@ -117,7 +122,7 @@ module _ (d v wanted out : List ℕ) where
       -- the number where the words fit, or do not
       answered : (full : Bool) → cond full 14 0 ≡ first (pair_rows d v ++ (row 25 false ∷ row 14 full ∷ []))
       unfolding first
-      answered full = pair_passed d v (row 25 false ∷ row 14 full ∷ []) (sym e ∙ z)
+      answered full = pair_passed d v (row 25 false ∷ row 14 full ∷ []) (sym e)
 
       pub find_words : {k : ℕ} → r ≡ Ok k → FindsText d v wanted out (Ok k) after
       unfolding first

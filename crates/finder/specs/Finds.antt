@@ -7,6 +7,7 @@ use Rattle.metadata.specs.Names.{Name}
 use Rattle.grammar.specs.Grammar.{Shape, ReadsPair}
 use Rattle.grammar.specs.Tests.{pair_rows}
 use Rattle.live.specs.Texts.{words_for}
+use Rattle.reader.specs.Answers.{error_number}
 use Rattle.finder.specs.declared.find.FindError.{FindError}
 use Rattle.finder.specs.declared.find.FindError.TheVariants.{Read, Missing, NoRoom}
 
@@ -32,7 +33,7 @@ abbrev pub found_number : Result ℕ FindError → ℕ
 found_number (Ok n) = 0
 found_number (Err Missing) = 25
 found_number (Err NoRoom) = 14
-found_number (Err (Read n)) = n
+found_number (Err (Read e)) = error_number e
 
 abbrev pub found_written : Result ℕ FindError → ℕ
 found_written (Ok n) = n

@@ -4,15 +4,25 @@ ghost use Rattle.finder.specs.Finds.{FindsText};
 
 use encoding::slices::NoRoom;
 use path_words::write_path;
-use reader::read_pair;
+use reader::{ReadError, read_pair};
 use text_search::least_place;
 
-// A pair that is not read, with 19 or 20; that no live text is the wanted one; that the words do not fit.
+// A pair that is not read; that no live text is the wanted one; that the words do not fit.
 #[derive(Clone, Copy, PartialEq, Eq, Debug)]
 pub enum FindError {
-    Read(u8),
+    Read(ReadError),
     Missing,
     NoRoom,
+}
+
+impl From<ReadError> for FindError {
+    ghost use Rattle.finder.specs.declared.find.FindError.{FindError};
+
+    ghost from_gives = { λ error e. e ≡ FindError.Read error };
+
+    fn from(error: ReadError) -> FindError {
+        FindError::Read(error)
+    }
 }
 
 impl From<NoRoom> for FindError {
@@ -29,10 +39,7 @@ impl From<NoRoom> for FindError {
 pub fn find_text(d: &[u8], v: &[u8], wanted: &[u8], out: &mut [u8]) -> Result<usize, FindError>
     ensures { FindsText d.now v.now wanted.now out.old result out.new }
 {
-    let number = read_pair(d, v);
-    if number != 0 {
-        return Err(FindError::Read(number));
-    }
+    read_pair(d, v)?;
     let place = least_place(v, wanted).ok_or(FindError::Missing)?;
     let written = write_path(d, v, place, out)?;
     Ok(written)

@@ -5,3 +5,4 @@ pub mod CutLaws
 pub mod HeadLaws
 pub mod TestLaws
 pub mod FieldLaws
+pub mod LengthLaws

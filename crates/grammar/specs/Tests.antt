@@ -1,6 +1,6 @@
 -- The grammar as a test of bytes, value by value: a container's data is cut by the values' first bytes and stored lengths (document 02, A8).
 -- proofs/TestLaws says that what passes is what has a reading.
-use Rattle.std.specs.Prelude.{Bool, cond, not, ◌&&◌, ◌||◌, List, [], ◌∷◌, map, ℕ, zero, suc, ◌+◌, ◌*◌, ◌/◌, ◌%◌, eqb, leb, ltb, drop, get_or, length, take}
+use Rattle.std.specs.Prelude.{Bool, cond, not, ◌&&◌, ◌||◌, List, [], ◌∷◌, map, ℕ, zero, suc, ◌+◌, ◌*◌, ◌/◌, ◌%◌, eqb, leb, ltb, Option, Some, None, drop, get_or, length, take}
 use Rattle.encoding.specs.Rows.{Row, row}
 use Rattle.value.specs.Scalar.{type_of_byte}
 use Rattle.metadata.specs.Names.{Name, same, ascending}
@@ -101,12 +101,12 @@ is_object_head names v =
     && (each_below (length names) (stored_ids v)
     && ascending (map (name_at names) (stored_ids v))))))
 
--- the size of a header that passes, else 0
-abbrev pub list_head : List ℕ → ℕ
-list_head v = cond (is_list_head v) (list_from v) 0
+-- the size of a header that passes
+abbrev pub list_head : List ℕ → Option ℕ
+list_head v = cond (is_list_head v) (Some (list_from v)) None
 
-abbrev pub object_head : List Name → List ℕ → ℕ
-object_head names v = cond (is_object_head names v) (object_from v) 0
+abbrev pub object_head : List Name → List ℕ → Option ℕ
+object_head names v = cond (is_object_head names v) (Some (object_from v)) None
 
 -- ---- values
 

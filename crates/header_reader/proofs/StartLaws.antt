@@ -8,8 +8,10 @@ use lib.Dec.{eqb}
 use lib.ListN.{length, take, drop, length-drop}
 use lib.Seq.{drop-drop, length-take-le, take_all}
 use borrow.Author.Tests.{ne_eqb, eqb-false}
-use Rattle.measure.specs.Measure.{measured}
+use Rattle.std.specs.Prelude.{Some, None}
+use Rattle.measure.specs.Measure.{measured, some_length}
 use Rattle.measure.proofs.MeasureLaws.{measured_within}
+use Rattle.grammar.proofs.LengthLaws.{length_is, length_none}
 use Rattle.grammar.specs.Grammar.{starts_from, among}
 use Rattle.grammar.specs.Tests.{cut_by, starts_of}
 use Rattle.header_reader.specs.Heads.{value_from}
@@ -62,14 +64,17 @@ starts_more vs at n e h =
 pub rest_is : (vs : List ℕ) (at : ℕ) → take (length vs - at) (drop at vs) ≡ drop at vs
 rest_is vs at = take_all (length vs - at) (drop at vs) (omega (arith, length-drop at vs))
 
-pub value_of_rest : (v : List ℕ) (at : ℕ) {rest : List ℕ} {n : ℕ} → rest ≡ take (length v - at) (drop at v) → n ≡ measured rest → take (n - 0) (drop 0 rest) ≡ value_from at v
+pub value_of_rest : (v : List ℕ) (at : ℕ) {rest : List ℕ} {n : ℕ} → rest ≡ take (length v - at) (drop at v) → n ≡ measured rest → take n rest ≡ value_from at v
 value_of_rest v at {rest} {n} e m =
     let r : rest ≡ drop at v = e ∙ rest_is v at in
-    let z : n - 0 ≡ measured (drop at v) = omega (arith, m ∙ ap measured r) in
-    rw (z, r)
+    rw (m, r)
 
-pub walked : (vs : List ℕ) (at : ℕ) {n : ℕ} → n ≡ measured (take (length vs - at) (drop at vs)) → n ≡ measured (drop at vs)
-walked vs at e = e ∙ ap measured (rest_is vs at)
+-- the next value, as the code measures it
+pub walked : (vs : List ℕ) (at : ℕ) {n : ℕ} → Some n ≡ some_length (measured (take (length vs - at) (drop at vs))) → (n ≡ measured (drop at vs)) × (0 < n)
+walked vs at e = let p = length_is (measured (take (length vs - at) (drop at vs))) e in (p.0 ∙ ap measured (rest_is vs at), p.1)
+
+pub walked_none : (vs : List ℕ) (at : ℕ) → None ≡ some_length (measured (take (length vs - at) (drop at vs))) → measured (drop at vs) ≡ 0
+walked_none vs at e = ap measured (sym (rest_is vs at)) ∙ length_none (measured (take (length vs - at) (drop at vs))) e
 
 -- a value ends within the data
 pub walked_within : (vs : List ℕ) (at n : ℕ) → at ≤ length vs → n ≡ measured (drop at vs) → at + n ≤ length vs

@@ -1,145 +1,135 @@
--- Numbers in a row: those that are left decide as all of them do.
+-- Numbers in a row: each as it is read, and those that are left decide as all of them do.
 use mathlib.Core.Path.{◌≡◌, refl, sym, ◌∙◌, ap}
-use mathlib.Core.Bool.{Bool, true, false, ◌&&◌}
-use mathlib.Core.List.{List, ◌∷◌, map}
-use Prim.Native.Nat.{ℕ, suc, ◌+◌, ◌-◌, ◌*◌, ◌≤◌, ◌<◌}
-use native.Mathlib.Nat.{mul-suc, mul-le-mul_right, zero-add}
+use mathlib.Core.Bool.{Bool, true, false, not, ◌&&◌, false≢true}
+use mathlib.Core.List.{List, [], ◌∷◌, map}
+use Prim.Native.Nat.{ℕ, suc, ◌+◌, ◌-◌, ◌*◌, ◌≤◌, ◌<◌, min}
+use native.Mathlib.Nat.{mul-le-mul_right}
 use native.Mathlib.Omega.{arith}
-use lib.Dec.{eqb, ltb}
-use lib.ListN.{length, take, drop}
+use lib.Dec.{eqb}
+use lib.ListN.{length, take, drop, get_or, get_or-eq_default}
 use lib.Seq.{drop-drop}
 use borrow.Author.Tests.{eq-eqb, ne_eqb, eqb-true, eqb-false, lt-ltb, le-ltb}
 use Rattle.metadata.specs.Names.{Name, same, below, ascending}
 use Rattle.metadata.specs.Bytes.{numbers}
 use Rattle.container.specs.Sort.{name_at}
-use Rattle.measure.specs.Measure.{measured, number_at}
+use Rattle.std.specs.Prelude.{Option, Some, None}
+use Rattle.std.specs.Option.{is_some}
+use Rattle.measure.specs.Measure.{measured, number_at, Numbered, some_length}
+use Rattle.lexicon.proofs.ByteLaws.{length_numbers}
+use Rattle.lexicon.proofs.NameLaws.{end_at, numbered}
 use Rattle.lexicon.specs.Dictionary.{each_below}
 use Rattle.grammar.specs.Tests.{starts_of}
 use Rattle.header_reader.specs.Windows.{starts_at}
-use Rattle.header_reader.proofs.StartLaws.{starts_none, starts_more, walked, walked_within}
-
-numbers_next : (w left p : ℕ) (table : List ℕ) → 0 < left → numbers w left (drop p table) ≡ number_at table p w ∷ numbers w (left - 1) (drop (p + w) table)
-unfolding numbers
-numbers_next w left p table h =
-    let k : left ≡ suc (left - 1) = omega arith in
-    ap (λ n. numbers w n (drop p table)) k ∙ ap (λ l. number_at table p w ∷ numbers w (left - 1) l) (drop-drop w p table)
+use Rattle.header_reader.proofs.StartLaws.{starts_none, starts_more, walked, walked_none, walked_within}
 
 -- no place overflows
 pub row_small : {w n : ℕ} → w ≤ 4 → n ≤ 4294967296 → w * n ≤ 17179869184
 row_small {w} {n} h k = omega (arith, mul-le-mul_right n h)
 
-abbrev pub Room : ℕ → ℕ → ℕ → Type 0
-Room w p left = p + w * left ≤ 17179869184
+-- number k of n numbers of w bytes from a place on, and none behind them
+module _ (w n at k : ℕ) (bytes : List ℕ) where
+  pub number_in : {r : ℕ} → w ≤ 4 → k < n → Numbered bytes (at + w * k) (min w 4) r → (r ≡ get_or (numbers w n (drop at bytes)) k 0) × (r < 4294967296)
+  number_in h l e =
+      let c : get_or (numbers w n (drop at bytes)) k 0 ≡ number_at bytes (at + w * k) w = end_at w n k (drop at bytes) l ∙ (rw (drop-drop (w * k) at bytes)) in
+      (numbered h e ∙ sym c, e.small)
 
-room_next : (w p left : ℕ) → Room w p left → 0 < left → Room w (p + w) (left - 1)
-room_next w p left r h = let k : left ≡ suc (left - 1) = omega arith in omega (arith, ap (λ n. w * n) k, mul-suc w (left - 1))
+  pub none_in : n ≤ k → (0 ≡ get_or (numbers w n (drop at bytes)) k 0) × (0 < 4294967296)
+  none_in h = (sym (get_or-eq_default (numbers w n (drop at bytes)) 0 {n = k} (rw (length_numbers w n (drop at bytes)) h)), omega arith)
+
+-- the first of them
+pub numbers_next : (w n at : ℕ) (bytes : List ℕ) {r : ℕ} → w ≤ 4 → (n ≡ 0 → ⊥) → Numbered bytes at (min w 4) r → numbers w n (drop at bytes) ≡ r ∷ numbers w (n - 1) (drop (at + w) bytes)
+unfolding numbers
+numbers_next w n at bytes h z e =
+    let k : n ≡ suc (n - 1) = omega arith in
+    rw (numbered h e) (ap (λ m. numbers w m (drop at bytes)) k ∙ ap (λ l. number_at bytes at w ∷ numbers w (n - 1) l) (drop-drop w at bytes))
 
 -- ---- each below a bound
 
-pub record Each (r : Bool) (table : List ℕ) (w b p left : ℕ) : Type 0 where
-  pub same : each_below b (numbers w left (drop p table)) ≡ r
-  pub room : Room w p left
+pub record Each (r : Bool) (b : ℕ) (ns : List ℕ) : Type 0 where
+  pub same : each_below b ns ≡ r
 
-pub each_start : (table : List ℕ) (w count b : ℕ) → w ≤ 4 → count < 4294967296 → Each (each_below b (numbers w count table)) table w b 0 count
-each_start table w count b h k = record { same = refl; room = omega (arith, row_small {n = count} h (omega arith)) }
-
-module _ {r : Bool} {table : List ℕ} {w b p left e : ℕ} (i : Each r table w b p left) (h : 0 < left) (f : e ≡ number_at table p w) where
-  each_next : (ltb e b && each_below b (numbers w (left - 1) (drop (p + w) table))) ≡ r
-  unfolding each_below
-  each_next = rw f (rw (numbers_next w left p table h) at i.same)
-
+module _ {r : Bool} {b e : ℕ} {all ns : List ℕ} (i : Each r b all) (f : all ≡ e ∷ ns) where
   pub each_over : b ≤ e → false ≡ r
-  each_over k = rw (le-ltb e b k) at each_next
+  unfolding each_below
+  each_over k = rw (f, le-ltb e b k) at i.same
 
-  pub each_again : e < b → Each r table w b (p + w) (left - 1)
-  each_again k = record { same = rw (lt-ltb e b k) at each_next; room = room_next w p left i.room h }
+  pub each_again : e < b → Each r b ns
+  unfolding each_below
+  each_again k = record { same = rw (f, lt-ltb e b k) at i.same }
 
-pub each_end : {r : Bool} {table : List ℕ} {w b p left : ℕ} → Each r table w b p left → left ≤ 0 → true ≡ r
-unfolding each_below numbers
-each_end {left = left} i h = let k : left ≡ 0 = omega arith in rw k at i.same
+pub each_end : {r : Bool} {b : ℕ} {all : List ℕ} → Each r b all → all ≡ [] → true ≡ r
+unfolding each_below
+each_end i f = rw f at i.same
 
 -- ---- the starts of values, one by one
 
-pub record Beside (r : Bool) (table vs : List ℕ) (w at p left : ℕ) : Type 0 where
-  pub alike : same (numbers w left (drop p table)) (starts_at vs at) ≡ r
+pub record Beside (r : Bool) (vs : List ℕ) (at : ℕ) (ns : List ℕ) : Type 0 where
+  pub alike : same ns (starts_at vs at) ≡ r
   pub high : at ≤ length vs
-  pub room : Room w p left
 
-pub beside_start : (table vs : List ℕ) (w count : ℕ) → w ≤ 4 → count < 4294967296 → Beside (same (numbers w count table) (starts_of vs)) table vs w 0 0 count
+pub beside_start : (vs ns : List ℕ) → Beside (same ns (starts_of vs)) vs 0 ns
 unfolding starts_at starts_of
-beside_start table vs w count h k = record { alike = refl; high = omega arith; room = omega (arith, row_small {n = count} h (omega arith)) }
+beside_start vs ns = record { alike = refl; high = omega arith }
 
-module _ {r : Bool} {table vs : List ℕ} {w at p left : ℕ} (i : Beside r table vs w at p left) where
-  -- the next value, as the code measures it
-  pub beside_value : {n : ℕ} → n ≡ measured (take (length vs - at) (drop at vs)) → n ≡ measured (drop at vs)
-  beside_value e = walked vs at e
+module _ {r : Bool} {vs : List ℕ} {at : ℕ} {all : List ℕ} (i : Beside r vs at all) where
+  pub beside_within : {n : ℕ} → Some n ≡ some_length (measured (take (length vs - at) (drop at vs))) → at + n ≤ length vs
+  beside_within e = walked_within vs at _ i.high (walked vs at e).0
 
-  pub beside_within : {n : ℕ} → n ≡ measured (take (length vs - at) (drop at vs)) → at + n ≤ length vs
-  beside_within e = walked_within vs at _ i.high (walked vs at e)
-
-  module _ (h : 0 < left) where
-    pub beside_none : measured (drop at vs) ≡ 0 → false ≡ r
+  module _ {e : ℕ} {ns : List ℕ} (f : all ≡ e ∷ ns) where
+    beside_stop : measured (drop at vs) ≡ 0 → false ≡ r
     unfolding same
-    beside_none z = rw (numbers_next w left p table h, starts_none vs at z) at i.alike
+    beside_stop z = rw (f, starts_none vs at z) at i.alike
 
-    module _ {e : ℕ} (f : e ≡ number_at table p w) where
-      beside_next : {n : ℕ} → n ≡ measured (drop at vs) → 0 < n → (eqb e at && same (numbers w (left - 1) (drop (p + w) table)) (starts_at vs (at + n))) ≡ r
-      unfolding same
-      beside_next {n} g k = rw f (rw (numbers_next w left p table h, starts_more vs at n g k) at i.alike)
+    pub beside_none : None ≡ some_length (measured (take (length vs - at) (drop at vs))) → false ≡ r
+    beside_none e = beside_stop (walked_none vs at e)
 
-      pub beside_other : (e ≡ at → ⊥) → false ≡ r
-      beside_other g = go (eqb (measured (drop at vs)) 0) refl
-        where
-          go : (t : Bool) → eqb (measured (drop at vs)) 0 ≡ t → false ≡ r
-          go true z = beside_none (eqb-true (measured (drop at vs)) 0 z)
-          go false z =
-              let y = eqb-false (measured (drop at vs)) 0 z in
-              rw (ne_eqb e at g) at (beside_next {n = measured (drop at vs)} refl (omega arith))
+    beside_next : {n : ℕ} → n ≡ measured (drop at vs) → 0 < n → (eqb e at && same ns (starts_at vs (at + n))) ≡ r
+    unfolding same
+    beside_next {n} g k = rw (f, starts_more vs at n g k) at i.alike
 
-      pub beside_again : {n : ℕ} → n ≡ measured (drop at vs) → 0 < n → e ≡ at → Beside r table vs w (at + n) (p + w) (left - 1)
-      beside_again {n} g k q =
-          record { alike = rw (eq-eqb e at q) at (beside_next {n = n} g k); high = walked_within vs at n i.high g; room = room_next w p left i.room h }
+    pub beside_other : (e ≡ at → ⊥) → false ≡ r
+    beside_other g = go (eqb (measured (drop at vs)) 0) refl
+      where
+        go : (t : Bool) → eqb (measured (drop at vs)) 0 ≡ t → false ≡ r
+        go true z = beside_stop (eqb-true (measured (drop at vs)) 0 z)
+        go false z =
+            let y = eqb-false (measured (drop at vs)) 0 z in
+            rw (ne_eqb e at g) at (beside_next {n = measured (drop at vs)} refl (omega arith))
 
-  pub beside_end : {n : ℕ} → left ≤ 0 → n ≡ measured (drop at vs) → eqb n 0 ≡ r
-  unfolding same numbers
-  beside_end {n} h g = go (eqb n 0) refl
+    pub beside_again : {n : ℕ} → Some n ≡ some_length (measured (take (length vs - at) (drop at vs))) → e ≡ at → Beside r vs (at + n) ns
+    beside_again {n} s q = let g = (walked vs at s).0 in let k = (walked vs at s).1 in record { alike = rw (eq-eqb e at q) at (beside_next {n = n} g k); high = walked_within vs at n i.high g }
+
+  -- whether a value is left
+  pub beside_end : {o : Option ℕ} {t : Bool} → all ≡ [] → o ≡ some_length (measured (take (length vs - at) (drop at vs))) → is_some o ≡ not t → t ≡ r
+  unfolding same
+  beside_end {o} {t} f g q = go o t g q
     where
-      none : left ≡ 0
-      none = omega arith
-
-      go : (t : Bool) → eqb n 0 ≡ t → t ≡ r
-      go true z = rw (none, starts_none vs at (sym g ∙ eqb-true n 0 z)) at i.alike
-      go false z = let y = eqb-false n 0 z in rw (none, starts_more vs at n g (omega arith)) at i.alike
+      go : (o : Option ℕ) (t : Bool) → o ≡ some_length (measured (take (length vs - at) (drop at vs))) → is_some o ≡ not t → t ≡ r
+      go None true e z = rw (f, starts_none vs at (walked_none vs at e)) at i.alike
+      go (Some n) false e z = let w = walked vs at e in rw (f, starts_more vs at n w.0 w.1) at i.alike
+      go None false e z = absurd (false≢true z)
+      go (Some n) true e z = absurd (false≢true (sym z))
 
 -- ---- ids of ascending names
 
-pub record Names (r : Bool) (names : List Name) (table : List ℕ) (w id p left : ℕ) : Type 0 where
-  pub order : ascending (map (name_at names) (id ∷ numbers w left (drop p table))) ≡ r
-  pub room : Room w p left
+pub record Names (r : Bool) (names : List Name) (id : ℕ) (ids : List ℕ) : Type 0 where
+  pub order : ascending (map (name_at names) (id ∷ ids)) ≡ r
 
-pub names_none : (names : List Name) (table : List ℕ) (w count : ℕ) → count ≡ 0 → true ≡ ascending (map (name_at names) (numbers w count table))
-unfolding ascending numbers
-names_none names table w count e = rw e
+pub names_none : (names : List Name) {ids : List ℕ} → ids ≡ [] → true ≡ ascending (map (name_at names) ids)
+unfolding ascending
+names_none names e = rw e
 
-pub names_start : (names : List Name) (table : List ℕ) (w count : ℕ) {id : ℕ} → w ≤ 4 → count < 4294967296 → (count ≡ 0 → ⊥) → id ≡ number_at table 0 w
-    → Names (ascending (map (name_at names) (numbers w count table))) names table w id w (count - 1)
-names_start names table w count h k s e =
-    let n : numbers w count table ≡ number_at table 0 w ∷ numbers w (count - 1) (drop w table) = rw (zero-add w) at (numbers_next w count 0 table (omega arith)) in
-    let r = row_small {n = count - 1} h (omega arith) in
-    let m : count ≡ suc (count - 1) = omega arith in
-    record { order = rw (e, n); room = omega (arith, ap (λ x. w * x) m, mul-suc w (count - 1), row_small {n = count} h (omega arith)) }
-
-module _ {r : Bool} {names : List Name} {table : List ℕ} {w id p left next : ℕ} (i : Names r names table w id p left) (h : 0 < left) (f : next ≡ number_at table p w) where
-  names_next : (below (name_at names id) (name_at names next) && ascending (map (name_at names) (next ∷ numbers w (left - 1) (drop (p + w) table)))) ≡ r
+module _ {r : Bool} {names : List Name} {id next : ℕ} {all ids : List ℕ} (i : Names r names id all) (f : all ≡ next ∷ ids) where
+  names_next : (below (name_at names id) (name_at names next) && ascending (map (name_at names) (next ∷ ids))) ≡ r
   unfolding ascending
-  names_next = rw f (rw (numbers_next w left p table h) at i.order)
+  names_next = rw f at i.order
 
   pub names_fall : below (name_at names id) (name_at names next) ≡ false → false ≡ r
   names_fall b = rw b at names_next
 
-  pub names_again : below (name_at names id) (name_at names next) ≡ true → Names r names table w next (p + w) (left - 1)
-  names_again b = record { order = rw b at names_next; room = room_next w p left i.room h }
+  pub names_again : below (name_at names id) (name_at names next) ≡ true → Names r names next ids
+  names_again b = record { order = rw b at names_next }
 
-pub names_end : {r : Bool} {names : List Name} {table : List ℕ} {w id p left : ℕ} → Names r names table w id p left → left ≤ 0 → true ≡ r
-unfolding ascending numbers
-names_end {left = left} i h = let k : left ≡ 0 = omega arith in rw k at i.order
+pub names_end : {r : Bool} {names : List Name} {id : ℕ} {all : List ℕ} → Names r names id all → all ≡ [] → true ≡ r
+unfolding ascending
+names_end i f = rw f at i.order

@@ -1,23 +1,21 @@
 -- Offsets that are starts, window by window.
-use mathlib.Core.Path.{◌≡◌, refl, sym, ◌∙◌, ap}
+use mathlib.Core.Path.{◌≡◌, refl, sym, ◌∙◌}
 use mathlib.Core.Bool.{Bool, true, false, not, ◌&&◌, ◌||◌, and-false, false≢true}
 use mathlib.Core.List.{List, [], ◌∷◌}
-use Prim.Native.Nat.{ℕ, zero, suc, ◌+◌, ◌-◌, ◌*◌, ◌≤◌, ◌<◌, min}
-use native.Mathlib.Nat.{mul-suc, mul-zero, sub_self, suc-add, zero-add}
+use Prim.Native.Nat.{ℕ, zero, suc, ◌+◌, ◌-◌, ◌≤◌, ◌<◌}
 use native.Mathlib.Omega.{arith}
 use lib.Dec.{eqb, leb, ltb}
-use Rattle.encoding.specs.Packed.{number}
-use lib.ListN.{length, take, drop, get_or, set, length-set, replicate, length-replicate, get_or-eq_default}
-use lib.Seq.{drop-drop, drop-length, take_all, length-take-le, get_or-set_same, get_or-set_other}
+use lib.ListN.{length, take, drop, get_or, set, length-set}
+use lib.Seq.{drop-cons, drop-length, get_or-set_same, get_or-set_other}
 use borrow.Author.Tests.{ne_eqb, eqb-true, eqb-false, leb-true, le-leb, lt-leb, ltb-true, ltb-false, lt-ltb, le-ltb}
-use Rattle.measure.specs.Measure.{measured, number_at}
+use Rattle.std.specs.Prelude.{Option, Some, None}
+use Rattle.measure.specs.Measure.{measured, some_length}
 use Rattle.measure.proofs.MeasureLaws.{measured_none}
-use Rattle.metadata.specs.Bytes.{numbers}
 use Rattle.lexicon.specs.Dictionary.{each_below}
 use Rattle.grammar.specs.Grammar.{among, starting}
 use Rattle.grammar.specs.Tests.{starts_of}
 use Rattle.header_reader.specs.Windows.{starts_at, inside, starting_by, is_start, marked, Reached, Marks, Takes, Window}
-use Rattle.header_reader.proofs.StartLaws.{starts_none, walked, walked_within, start_low, start_high, among_more}
+use Rattle.header_reader.proofs.StartLaws.{starts_none, walked, walked_none, walked_within, start_low, start_high, among_more}
 
 -- ---- tests
 
@@ -131,12 +129,14 @@ reached_start vs = record { low = omega arith; high = omega arith; ahead = λ x 
 pub windows_start : (vs ns : List ℕ) → Windows (starting_by (is_start vs) 0 (length vs) ns) vs ns 0 0
 windows_start vs ns = record { same = refl; reached = reached_start vs }
 
-module _ {r : Bool} {vs ns : List ℕ} {lo at hi next : ℕ} (w : Windows r vs ns lo at) (h : lo ≤ hi) (k : hi ≤ length vs) (x : Window vs ns lo hi next) where
-  pub windows_bad : next ≡ 0 → false ≡ r
-  windows_bad e = rw (starting_split (is_start vs) lo hi (length vs) ns h k, x.bad e) at w.same
+module _ {r : Bool} {vs ns : List ℕ} {lo at hi : ℕ} {answer : Option ℕ} (w : Windows r vs ns lo at) (h : lo ≤ hi) (k : hi ≤ length vs) (x : Window vs ns lo hi answer) where
+  pub windows_bad : answer ≡ None → false ≡ r
+  windows_bad e = rw (starting_split (is_start vs) lo hi (length vs) ns h k, (rw e at x)) at w.same
 
-  pub windows_again : (next ≡ 0 → ⊥) → Windows r vs ns hi next
-  windows_again e = record { same = rw (starting_split (is_start vs) lo hi (length vs) ns h k, x.good e) at w.same; reached = x.reached e }
+  pub windows_again : {next : ℕ} → answer ≡ Some next → Windows r vs ns hi next
+  windows_again e =
+      let y = rw e at x in
+      record { same = rw (starting_split (is_start vs) lo hi (length vs) ns h k, y.0) at w.same; reached = y.1 }
 
 pub windows_end : {r : Bool} {vs ns : List ℕ} {lo at : ℕ} → Windows r vs ns lo at → length vs ≤ lo → true ≡ r
 windows_end {vs = vs} {ns = ns} {lo = lo} w h =
@@ -164,19 +164,21 @@ marking_start {lo = lo} w e f =
     }
 
 module _ {vs : List ℕ} {lo hi : ℕ} {cells : List ℕ} {at : ℕ} (m : Marking vs lo hi cells at) where
-  -- the next value, as the code measures it
-  pub marking_value : {n : ℕ} → n ≡ measured (take (length vs - at) (drop at vs)) → n ≡ measured (drop at vs)
-  marking_value e = walked vs at e
+  module _ {n : ℕ} (g : Some n ≡ some_length (measured (take (length vs - at) (drop at vs)))) where
+    e : n ≡ measured (drop at vs)
+    e = (walked vs at g).0
 
-  pub marking_within : {n : ℕ} → n ≡ measured (take (length vs - at) (drop at vs)) → at + n ≤ length vs
-  marking_within e = walked_within vs at _ m.high (walked vs at e)
+    pub marking_more : 0 < n
+    marking_more = (walked vs at g).1
 
-  module _ {n : ℕ} (e : n ≡ measured (drop at vs)) where
-    pub marking_again : at < hi → 0 < n → Marking vs lo hi (set cells (at - lo) 1) (at + n)
-    marking_again k h =
+    pub marking_within : at + n ≤ length vs
+    marking_within = walked_within vs at _ m.high e
+
+    pub marking_again : at < hi → Marking vs lo hi (set cells (at - lo) 1) (at + n)
+    marking_again k =
         record {
           same = λ x p q. next x p q (eqb x at) refl;
-          ahead = λ x p. sym (rw (ne_eqb x at (omega arith)) at (among_more vs at n x e h)) ∙ m.ahead x p;
+          ahead = λ x p. sym (rw (ne_eqb x at (omega arith)) at (among_more vs at n x e marking_more)) ∙ m.ahead x p;
           low = omega (arith, m.low);
           high = walked_within vs at n m.high e;
           size = rw (length-set cells (at - lo) 1) m.size;
@@ -188,7 +190,7 @@ module _ {vs : List ℕ} {lo hi : ℕ} {cells : List ℕ} {at : ℕ} (m : Markin
             let l = m.low in
             let s = m.size in
             let i : x - lo ≡ at - lo = omega arith in
-            let y : true ≡ is_start vs x = rw (among_more vs at n x e h, f, or_true (marked lo cells x)) at (m.same x p q) in
+            let y : true ≡ is_start vs x = rw (among_more vs at n x e marking_more, f, or_true (marked lo cells x)) at (m.same x p q) in
             rw (i, get_or-set_same cells (at - lo) 1 0 (omega arith)) y
           where
             or_true : (a : Bool) → (a || true) ≡ true
@@ -197,17 +199,17 @@ module _ {vs : List ℕ} {lo hi : ℕ} {cells : List ℕ} {at : ℕ} (m : Markin
         next x p q false f =
             let z = eqb-false x at f in
             let l = m.low in
-            rw (get_or-set_other cells (at - lo) (x - lo) 1 0 (λ i. z (omega arith))) (rw (among_more vs at n x e h, f) at (m.same x p q))
+            rw (get_or-set_other cells (at - lo) (x - lo) 1 0 (λ i. z (omega arith))) (rw (among_more vs at n x e marking_more, f) at (m.same x p q))
 
-    -- no whole value is left
-    pub marking_none : n ≡ 0 → hi ≤ length vs → Reached vs hi (length vs) × Marks (is_start vs) lo hi cells
-    unfolding among
-    marking_none z k =
-        let a = starts_none vs at (sym e ∙ z) in
-        let b = starts_none vs (length vs) (rw (drop-length vs) (sym (measured_none [] refl))) in (
-          record { low = omega arith; high = omega arith; ahead = λ x p. rw b (rw a at (m.ahead x p)) },
-          λ x p q. sym (or_none (marked lo cells x)) ∙ (rw a at (m.same x p q)),
-        )
+  -- no whole value is left
+  pub marking_none : None ≡ some_length (measured (take (length vs - at) (drop at vs))) → hi ≤ length vs → Reached vs hi (length vs) × Marks (is_start vs) lo hi cells
+  unfolding among
+  marking_none g k =
+      let a = starts_none vs at (walked_none vs at g) in
+      let b = starts_none vs (length vs) (rw (drop-length vs) (sym (measured_none [] refl))) in (
+        record { low = omega arith; high = omega arith; ahead = λ x p. rw b (rw a at (m.ahead x p)) },
+        λ x p q. sym (or_none (marked lo cells x)) ∙ (rw a at (m.same x p q)),
+      )
 
   pub marking_end : hi ≤ at → Reached vs hi at × Marks (is_start vs) lo hi cells
   marking_end h = (
@@ -217,31 +219,18 @@ module _ {vs : List ℕ} {lo hi : ℕ} {cells : List ℕ} {at : ℕ} (m : Markin
 
 -- ---- marks taken by offsets, from the last to the first
 
--- the last k of the numbers: each inside has taken a mark of its own
-abbrev pub last_of : ℕ → ℕ → List ℕ → ℕ → List ℕ
-last_of w count table left = numbers w (count - left) (drop (w * left) table)
-
-last_next : (w count left : ℕ) (table : List ℕ) → left < count → last_of w count table left ≡ number_at table (w * left) w ∷ last_of w count table (left + 1)
-unfolding numbers
-last_next w count left table h =
-    let k : count - left ≡ suc (count - (left + 1)) = omega arith in
-    let s : left + 1 ≡ suc left = omega arith in
-    let m : w * left + w ≡ w * (left + 1) = omega (arith, ap (λ x. w * x) s, mul-suc w left) in
-    rw (k, drop-drop w (w * left) table, m)
-
 -- a test of all fails where it fails of the last
-last_fails : (test : ℕ → Bool) (lo hi w j k : ℕ) (table : List ℕ) → starting_by test lo hi (numbers w k (drop (w * j) table)) ≡ false → starting_by test lo hi (numbers w (j + k) table) ≡ false
-unfolding starting_by numbers
-last_fails test lo hi w zero k table e = rw (zero-add k) (rw (mul-zero w) at e)
-last_fails test lo hi w (suc j) k table e =
-    let m : w + w * j ≡ w * suc j = omega (arith, mul-suc w j) in
-    rw (suc-add j k, last_fails test lo hi w j k (drop w table) (rw (drop-drop (w * j) w table, m) e))
-    (and-false (not (inside lo hi (number (take w table))) || (test (number (take w table)) && not (among (number (take w table)) (numbers w (j + k) (drop w table))))))
+last_fails : (test : ℕ → Bool) (lo hi k : ℕ) (ns : List ℕ) → starting_by test lo hi (drop k ns) ≡ false → starting_by test lo hi ns ≡ false
+unfolding starting_by
+last_fails test lo hi zero ns e = e
+last_fails test lo hi (suc k) [] e = e
+last_fails test lo hi (suc k) (n ∷ ns) e =
+    rw (last_fails test lo hi k ns e) (and-false (not (inside lo hi n) || (test n && not (among n ns))))
 
-pub record Taking (test : ℕ → Bool) (lo hi w count : ℕ) (table : List ℕ) (cells : List ℕ) (left : ℕ) : Type 0 where
-  pub passed : starting_by test lo hi (last_of w count table left) ≡ true
-  pub marks : Marks (λ x. test x && not (among x (last_of w count table left))) lo hi cells
-  pub few : left ≤ count
+-- the last of the numbers, those behind place `left`: each inside has taken a mark of its own
+pub record Taking (test : ℕ → Bool) (lo hi : ℕ) (ns : List ℕ) (cells : List ℕ) (left : ℕ) : Type 0 where
+  pub passed : starting_by test lo hi (drop left ns) ≡ true
+  pub marks : Marks (λ x. test x && not (among x (drop left ns))) lo hi cells
   pub size : lo + length cells ≡ hi
 
 and_all : (a : Bool) → (a && true) ≡ a
@@ -254,106 +243,43 @@ and_neither true true false = refl
 and_neither true false b = and_all (not b)
 and_neither false a b = refl
 
--- ---- one number
-
-module _ (lo x : ℕ) (cells : List ℕ) where
-  -- it has no cell
-  take_outside : inside lo (lo + length cells) x ≡ false → Takes lo x cells cells true
-  take_outside e =
-      record {
-        answer = rw e;
-        taken = λ y h k. go y h k (eqb y x) refl;
-      }
-    where
-      go : (y : ℕ) → lo ≤ y → y < lo + length cells → (t : Bool) → eqb y x ≡ t → marked lo cells y ≡ (marked lo cells y && not t)
-      go y h k true q = let z = eqb-true y x q in absurd (false≢true (sym e ∙ (rw (le-leb lo x (omega arith), lt-ltb x (lo + length cells) (omega arith)))))
-      go y h k false q = sym (and_all (marked lo cells y))
-
-  pub take_low : x < lo → Takes lo x cells cells true
-  take_low h = take_outside (rw (lt-leb lo x h))
-
-  module _ (h : lo ≤ x) where
-    pub take_high : length cells ≤ x - lo → Takes lo x cells cells true
-    take_high k = take_outside (rw (le-leb lo x h, le-ltb x (lo + length cells) (omega arith)))
-
-    module _ (k : x - lo < length cells) where
-      within : inside lo (lo + length cells) x ≡ true
-      within = rw (le-leb lo x h, lt-ltb x (lo + length cells) (omega arith))
-
-      pub take_none : (get_or cells (x - lo) 0 ≡ 1 → ⊥) → Takes lo x cells cells false
-      take_none f = record { answer = rw (within, bare); taken = λ y p q. go y (eqb y x) refl }
-        where
-          bare : marked lo cells x ≡ false
-          bare = ne_eqb (get_or cells (x - lo) 0) 1 f
-
-          go : (y : ℕ) (t : Bool) → eqb y x ≡ t → marked lo cells y ≡ (marked lo cells y && not t)
-          go y true q = let z = eqb-true y x q in rw (z, bare)
-          go y false q = sym (and_all (marked lo cells y))
-
-      pub take_one : get_or cells (x - lo) 0 ≡ 1 → Takes lo x cells (set cells (x - lo) 0) true
-      take_one f = record { answer = rw (within, f); taken = λ y p q. go y p (eqb y x) refl }
-        where
-          go : (y : ℕ) → lo ≤ y → (t : Bool) → eqb y x ≡ t → marked lo (set cells (x - lo) 0) y ≡ (marked lo cells y && not t)
-          go y p true q =
-              let z = eqb-true y x q in
-              rw (z, get_or-set_same cells (x - lo) 0 0 k) (sym (and-false (marked lo cells x)))
-          go y p false q =
-              let z = eqb-false y x q in
-              rw (get_or-set_other cells (x - lo) (y - lo) 0 0 (λ i. z (omega arith))) (sym (and_all (marked lo cells y)))
-
 -- ---- all of them
 
-pub taking_start : (lo w count : ℕ) (table cells : List ℕ) → Taking (marked lo cells) lo (lo + length cells) w count table cells count
-unfolding starting_by numbers among
-taking_start lo w count table cells =
-    let z = sub_self count in
-    record { passed = rw z; marks = λ x h k. rw z (sym (and_all (marked lo cells x))); few = omega arith; size = refl }
+pub taking_start : (lo : ℕ) (ns cells : List ℕ) → Taking (marked lo cells) lo (lo + length cells) ns cells (length ns)
+unfolding starting_by among
+taking_start lo ns cells =
+    let z = drop-length ns in
+    record { passed = rw z; marks = λ x h k. rw z (sym (and_all (marked lo cells x))); size = refl }
 
-module _ {test : ℕ → Bool} {lo hi w count : ℕ} {table cells after : List ℕ} {left x : ℕ} {r : Bool} (i : Taking test lo hi w count table cells left) (h : 0 < left)
-    (e : x ≡ number_at table (w * (left - 1)) w) (k : Takes lo x cells after r) where
-  next : last_of w count table (left - 1) ≡ x ∷ last_of w count table left
-  next =
-      let f = i.few in
-      let s : left - 1 + 1 ≡ left = omega arith in
-      rw (← e, s) at (last_next w count (left - 1) table (omega arith))
+module _ {test : ℕ → Bool} {lo hi : ℕ} {ns cells after : List ℕ} {left x : ℕ} {r : Bool} (k : ℕ) (i : Taking test lo hi ns cells left) (h : k + 1 ≡ left) (l : left ≤ length ns)
+    (e : x ≡ get_or ns k 0) (t : Takes lo x cells after r) where
+  next : drop k ns ≡ x ∷ drop left ns
+  next = let s : suc k ≡ left = omega arith in rw (drop-cons ns k 0 (omega arith), ← e, s)
 
-  answers : r ≡ (not (inside lo hi x) || (test x && not (among x (last_of w count table left))))
-  answers = (rw i.size at k.answer) ∙ go (inside lo hi x) refl
+  answers : r ≡ (not (inside lo hi x) || (test x && not (among x (drop left ns))))
+  answers = (rw i.size at t.answer) ∙ go (inside lo hi x) refl
     where
-      go : (t : Bool) → inside lo hi x ≡ t → (not t || marked lo cells x) ≡ (not t || (test x && not (among x (last_of w count table left))))
+      go : (t : Bool) → inside lo hi x ≡ t → (not t || marked lo cells x) ≡ (not t || (test x && not (among x (drop left ns))))
       go true q = let l = inside_true lo hi x q in i.marks x l.0 l.1
       go false q = refl
 
-  pub taking_bad : r ≡ false → false ≡ starting_by test lo hi (numbers w count table)
+  pub taking_bad : r ≡ false → false ≡ starting_by test lo hi ns
   unfolding starting_by
-  taking_bad q =
-      let f = i.few in
-      let n : left - 1 + (count - (left - 1)) ≡ count = omega arith in
-      let b : starting_by test lo hi (last_of w count table (left - 1)) ≡ false = rw (next, ← answers, q) in
-      sym (rw n at (last_fails test lo hi w (left - 1) (count - (left - 1)) table b))
+  taking_bad q = sym (last_fails test lo hi k ns (rw (next, ← answers, q)))
 
-  pub taking_again : r ≡ true → length after ≡ length cells → Taking test lo hi w count table after (left - 1)
+  pub taking_again : r ≡ true → length after ≡ length cells → Taking test lo hi ns after k
   unfolding starting_by among
-  taking_again q l =
+  taking_again q m =
       let s = i.size in
-      record {
-        passed = rw (next, ← answers, q) i.passed;
-        marks = λ y p o. marks_next y p o;
-        few = omega (arith, i.few);
-        size = rw l s;
-      }
+      record { passed = rw (next, ← answers, q) i.passed; marks = λ y p o. marks_next y p o; size = rw m s }
     where
-      marks_next : (y : ℕ) → lo ≤ y → y < hi → marked lo after y ≡ (test y && not (among y (last_of w count table (left - 1))))
+      marks_next : (y : ℕ) → lo ≤ y → y < hi → marked lo after y ≡ (test y && not (among y (drop k ns)))
       marks_next y p o =
-          let a = rw i.size at (k.taken y p) in
-          a o ∙ (rw (i.marks y p o, next) (and_neither (test y) (eqb y x) (among y (last_of w count table left))))
+          let a = rw i.size at (t.taken y p) in
+          a o ∙ (rw (i.marks y p o, next) (and_neither (test y) (eqb y x) (among y (drop left ns))))
 
-pub taking_end : {test : ℕ → Bool} {lo hi w count : ℕ} {table cells : List ℕ} {left : ℕ} → Taking test lo hi w count table cells left → left ≤ 0
-    → true ≡ starting_by test lo hi (numbers w count table)
-taking_end {w = w} {count = count} {left = left} i h =
-    let z : left ≡ 0 = omega arith in
-    let c : count - 0 ≡ count = omega arith in
-    sym (rw (z, mul-zero w, c) at i.passed)
+pub taking_end : {test : ℕ → Bool} {lo hi : ℕ} {ns cells : List ℕ} {left : ℕ} → Taking test lo hi ns cells left → left ≡ 0 → true ≡ starting_by test lo hi ns
+taking_end i z = sym (rw z at i.passed)
 
 -- ---- a window
 
@@ -363,45 +289,8 @@ module _ (vs ns cells cleared marks : List ℕ) {lo next : ℕ} {t : Bool} (z : 
   decides : t ≡ starting_by (is_start vs) lo (lo + length cells) ns
   decides = (rw (s ∙ z) at e) ∙ starting_same (marked lo marks) (is_start vs) lo (lo + length cells) ns (rw z at m.1)
 
-  pub window_good : 0 < lo + length cells → t ≡ true → Window vs ns lo (lo + length cells) next
-  window_good h q =
-      let l = m.0.low in
-      record { bad = λ y. absurd (omega arith); good = λ y. sym decides ∙ q; reached = λ y. rw z at m.0 }
+  pub window_good : t ≡ true → Window vs ns lo (lo + length cells) (Some next)
+  window_good q = (sym decides ∙ q, rw z at m.0)
 
-  pub window_bad : t ≡ false → Window vs ns lo (lo + length cells) 0
-  window_bad q = record { bad = λ y. sym decides ∙ q; good = λ y. absurd (y refl); reached = λ y. absurd (y refl) }
-
--- ---- cells cleared
-
-pub record Clears (long : ℕ) (cells : List ℕ) (i : ℕ) : Type 0 where
-  pub clear : (k : ℕ) → k < i → get_or cells k 0 ≡ 0
-  pub size : length cells ≡ long
-
-pub clears_start : (cells : List ℕ) → Clears (length cells) cells 0
-clears_start cells = record { clear = λ k h. absurd (omega arith); size = refl }
-
-pub clears_again : {long : ℕ} {cells : List ℕ} {i : ℕ} → Clears long cells i → i < length cells → Clears long (set cells i 0) (i + 1)
-clears_again {cells = cells} {i = i} c h = record { clear = λ k l. go k l (eqb k i) refl; size = rw (length-set cells i 0) c.size }
-  where
-    go : (k : ℕ) → k < i + 1 → (t : Bool) → eqb k i ≡ t → get_or (set cells i 0) k 0 ≡ 0
-    go k l true e = rw (eqb-true k i e, get_or-set_same cells i 0 0 h)
-    go k l false e = let z = eqb-false k i e in rw (get_or-set_other cells i k 0 0 z) (c.clear k (omega arith))
-
-pub clears_end : {long : ℕ} {cells : List ℕ} {i : ℕ} → Clears long cells i → length cells ≤ i → (k : ℕ) → get_or cells k 0 ≡ 0
-clears_end {cells = cells} {i = i} c h k = go (ltb k i) refl
-  where
-    go : (t : Bool) → ltb k i ≡ t → get_or cells k 0 ≡ 0
-    go true e = c.clear k (ltb-true k i e)
-    go false e = get_or-eq_default cells 0 {n = k} (omega (arith, ltb-false k i e))
-
--- ---- the cells lent for a window: no more than are there, and than the values have bytes left
-
-pub lent_cells : (lo size : ℕ) (cells : List ℕ) {n : ℕ} → n ≡ min (length cells) (size - lo) → length (take (n - 0) cells) ≡ n
-lent_cells lo size cells {n} e = let z : n - 0 ≡ n = omega arith in rw z (length-take-le n cells (omega arith))
-
--- all cells of an array
-pub all_cells : (n : ℕ) → 0 < n → 0 < length (take (n - 0) (replicate {A = ℕ} n 0))
-all_cells n h =
-    let z : n - 0 ≡ n = omega arith in
-    let r : length (replicate {A = ℕ} n 0) ≡ n = length-replicate n 0 in
-    rw (z, take_all n (replicate {A = ℕ} n 0) (omega arith), r) h
+  pub window_bad : t ≡ false → Window vs ns lo (lo + length cells) None
+  window_bad q = sym decides ∙ q

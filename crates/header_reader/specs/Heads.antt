@@ -1,11 +1,15 @@
 -- For the code: what is left to test of an object's header that is as long as it says; a value by where it starts.
-use Rattle.std.specs.Prelude.{Bool, ◌&&◌, List, map, ℕ, drop, length, take}
+use Rattle.std.specs.Prelude.{Bool, ◌&&◌, List, map, ℕ, ◌%◌, eqb, ltb, drop, get_or, length, take}
 use Rattle.metadata.specs.Names.{Name, ascending}
 use Rattle.container.specs.Sort.{name_at}
 use Rattle.measure.specs.Measure.{measured}
 use Rattle.lexicon.specs.Dictionary.{each_below}
 use Rattle.grammar.specs.Grammar.{starting}
 use Rattle.grammar.specs.Tests.{object_from, object_offsets, starts_of}
+
+-- the first byte tells this kind and is below `most`, "unused header bits are zero"; "the value is as long as its bytes"
+abbrev pub is_whole : ℕ → ℕ → List ℕ → Bool
+is_whole kind most v = eqb (get_or v 0 0 % 4) kind && (ltb (get_or v 0 0) most && eqb (measured v) (length v))
 
 -- "ids those of strictly ascending names"
 abbrev pub ids_good : List Name → List ℕ → Bool

@@ -1,5 +1,5 @@
 -- For the code: offsets beside the starts of values, window by window.
-use Rattle.std.specs.Prelude.{◌≡◌, Bool, true, false, not, ◌&&◌, ◌||◌, List, [], ◌∷◌, ℕ, ◌+◌, ◌-◌, ◌≤◌, ◌<◌, eqb, leb, ltb, drop, get_or, length}
+use Rattle.std.specs.Prelude.{◌≡◌, Bool, true, false, not, ◌&&◌, ◌||◌, List, [], ◌∷◌, ℕ, ◌+◌, ◌-◌, ◌≤◌, ◌<◌, eqb, leb, ltb, Option, Some, None, drop, get_or, length}
 use Rattle.grammar.specs.Grammar.{starts_from, among}
 use Rattle.grammar.specs.Tests.{cut_by, starts_of}
 
@@ -42,11 +42,10 @@ Marks test lo hi cells = (x : ℕ) → lo ≤ x → x < hi → marked lo cells x
 abbrev pub Walked : List ℕ → ℕ → ℕ → List ℕ → ℕ → Type 0
 Walked vs lo hi cells r = Reached vs hi r × Marks (is_start vs) lo hi cells
 
--- what a window answers: 0, if an offset in it is no start or is like a later one; else where the walk stands behind it
-pub record Window (vs ns : List ℕ) (lo hi r : ℕ) : Type 0 where
-  pub bad : r ≡ 0 → starting_by (is_start vs) lo hi ns ≡ false
-  pub good : (r ≡ 0 → ⊥) → starting_by (is_start vs) lo hi ns ≡ true
-  pub reached : (r ≡ 0 → ⊥) → Reached vs hi r
+-- what a window answers: none, if an offset in it is no start or is like a later one; else where the walk stands behind it
+abbrev pub Window : List ℕ → List ℕ → ℕ → ℕ → Option ℕ → Type 0
+Window vs ns lo hi None = starting_by (is_start vs) lo hi ns ≡ false
+Window vs ns lo hi (Some at) = (starting_by (is_start vs) lo hi ns ≡ true) × Reached vs hi at
 
 -- what a number x does to the marks: it takes its own, if it is inside
 pub record Takes (lo x : ℕ) (cells after : List ℕ) (r : Bool) : Type 0 where

@@ -1,99 +1,75 @@
 // Offsets that are starts of values, no two alike, in any order: found window by window of the values' bytes. A walk over the values marks
 // in a window's cells where they start, then each offset that lies in it takes its mark: a second one like it finds none.
-ghost use Rattle.std.specs.Prelude.{◌≡◌, ℕ, ◌+◌, ◌≤◌, ◌<◌, get_or, length};
+ghost use Rattle.std.specs.Prelude.{◌≡◌, ℕ, ◌+◌, ◌*◌, ◌≤◌, ◌<◌, drop, get_or, length};
 ghost use Rattle.metadata.specs.Bytes.{numbers};
 ghost use Rattle.grammar.specs.Grammar.{starting};
 ghost use Rattle.grammar.specs.Tests.{starts_of};
 ghost use Rattle.header_reader.specs.Windows.{Reached, Takes, Walked, Window, marked, starting_by, starting_in};
 
-use crate::parts::each_below;
-use encoding::slices::min;
-use measure::{read_packed, value_length};
+use crate::header::Header;
+use crate::numbers::Numbers;
+use measure::value_length;
+use std::mem;
 
-// Is each of the `count` numbers of w bytes where one of the values starts that these bytes begin with, and no two alike?
-pub(crate) fn are_apart(table: &[u8], w: usize, count: usize, values: &[u8]) -> bool
-    requires { (w ≤ 4) × (count < 4294967296) }
-    ensures { result ≡ starting (starts_of values.now) (numbers w count table.now) }
+// Is each of the header's offsets where one of the values starts that these bytes begin with, and no two alike? The usual small object has
+// fewer cells, which are sooner cleared; with windows of 4096 bytes the passes over the offsets are few, and the stack stays small.
+pub(crate) fn are_apart(header: &Header, values: &[u8]) -> bool
+    ensures { let h = header.now in result ≡ starting (starts_of values.now) (numbers h.offset_width h.count (drop (h.ids + h.id_width * h.count) h.bytes.now)) }
 {
-    let size = values.len();
-    if !each_below(table, w, count, size) {
+    if !header.offsets().each_below(values.len()) {
         return false;
     }
-    if size <= 256 {
-        return by_few_cells(table, w, count, values);
+    let offsets = header.offsets();
+    if values.len() <= 256 {
+        by_windows::<256>(&offsets, values)
+    } else {
+        by_windows::<4096>(&offsets, values)
     }
-    by_cells(table, w, count, values)
 }
 
-// In windows of 4096 bytes: the passes over the numbers are few, and the stack stays small.
-fn by_cells(table: &[u8], w: usize, count: usize, values: &[u8]) -> bool
-    requires { (w ≤ 4) × (count < 4294967296) }
-    ensures { result ≡ starting_in values.now (numbers w count table.now) }
+// Of the numbers below the values' size, by so many cells. A `while`: the last window is shorter, and the walk's place goes from one to the
+// next.
+fn by_windows<const CELLS: usize>(offsets: &Numbers, values: &[u8]) -> bool
+    requires { (0 < CELLS) × (CELLS ≤ 4096) }
+    ensures { result ≡ starting_in values.now offsets.now }
 {
-    let mut cells = [0u8; 4096];
-    by_windows(&mut cells[0..4096], table, w, count, values)
-}
-
-// For the usual small object: fewer cells are sooner cleared.
-fn by_few_cells(table: &[u8], w: usize, count: usize, values: &[u8]) -> bool
-    requires { (w ≤ 4) × (count < 4294967296) }
-    ensures { result ≡ starting_in values.now (numbers w count table.now) }
-{
-    let mut cells = [0u8; 256];
-    by_windows(&mut cells[0..256], table, w, count, values)
-}
-
-// Of the numbers below the values' size, by as many cells as are lent.
-fn by_windows(cells: &mut [u8], table: &[u8], w: usize, count: usize, values: &[u8]) -> bool
-    requires { (w ≤ 4) × (count < 4294967296) × (0 < length cells.old) }
-    ensures { result ≡ starting_in values.now (numbers w count table.now) }
-{
+    let mut cells = [0u8; CELLS];
     let mut lo = 0;
     let mut at = 0;
     while lo < values.len() {
-        let n = min(cells.len(), values.len() - lo);
-        at = by_window(&mut cells[0..n], table, w, count, values, lo, at);
-        if at == 0 {
+        let n = CELLS.min(values.len() - lo);
+        let Some(next) = by_window(&mut cells[..n], offsets, values, lo, at) else {
             return false;
-        }
+        };
+        at = next;
         lo += n;
     }
     true
 }
 
-// Of the numbers from lo on for which there are cells. Where the walk over the values stands behind them, or 0 where a number is bad.
+// Of the numbers from lo on for which there are cells: where the walk over the values stands behind them, if each is good.
 fn by_window(
     cells: &mut [u8],
-    table: &[u8],
-    w: usize,
-    count: usize,
+    offsets: &Numbers,
     values: &[u8],
     lo: usize,
     at: usize,
-) -> usize
-    requires w_bound { (w ≤ 4) × (count < 4294967296) × Reached values.now lo at }
-    requires cells_nonzero { (0 < length cells.old) × (lo + length cells.old ≤ length values.now) }
-    ensures { Window values.now (numbers w count table.now) lo (lo + length cells.old) result }
+) -> Option<usize>
+    requires reached { Reached values.now lo at }
+    requires inside { lo + length cells.old ≤ length values.now }
+    ensures { Window values.now offsets.now lo (lo + length cells.old) result }
 {
-    clear(cells);
+    cells.fill(0);
     let next = mark_starts(cells, values, lo, at);
-    if take_marks(cells, table, w, count, lo) {
-        return next;
-    }
-    0
-}
-
-fn clear(cells: &mut [u8])
-    ensures { (i : ℕ) → get_or cells.new i 0 ≡ 0 }
-{
-    let mut k = 0;
-    while k < cells.len() {
-        cells[k] = 0;
-        k += 1;
+    if take_marks(cells, offsets, lo) {
+        Some(next)
+    } else {
+        None
     }
 }
 
-// Marks where values start, from lo on, as far as there are cells; where the walk stands behind them.
+// Marks where values start, from lo on, as far as there are cells; where the walk stands behind them. A `while`, since each step is a stored
+// length.
 fn mark_starts(cells: &mut [u8], values: &[u8], lo: usize, at: usize) -> usize
     requires cells_in_bounds { (lo + length cells.old ≤ length values.now) × Reached values.now lo at }
     requires by_index { (i : ℕ) → get_or cells.old i 0 ≡ 0 }
@@ -102,25 +78,21 @@ fn mark_starts(cells: &mut [u8], values: &[u8], lo: usize, at: usize) -> usize
     let hi = lo + cells.len();
     let mut at = at;
     while at < hi {
-        let n = value_length(&values[at..]).unwrap_or(0);
-        if n == 0 {
+        let Some(n) = value_length(&values[at..]) else {
             return values.len();
-        }
+        };
         cells[at - lo] = 1;
         at += n;
     }
     at
 }
 
-// Does each of the numbers that has a cell find a mark there, which it takes? From the last to the first, so that none is like a later one.
-fn take_marks(cells: &mut [u8], table: &[u8], w: usize, count: usize, lo: usize) -> bool
-    requires { (w ≤ 4) × (count < 4294967296) }
-    ensures { result ≡ starting_by (marked lo cells.old) lo (lo + length cells.old) (numbers w count table.now) }
+// Does each of the offsets that has a cell find a mark there, which it takes? From the last to the first, so that none is like a later one.
+fn take_marks(cells: &mut [u8], offsets: &Numbers, lo: usize) -> bool
+    ensures { result ≡ starting_by (marked lo cells.old) lo (lo + length cells.old) offsets.now }
 {
-    let mut left = count;
-    while 0 < left {
-        left -= 1;
-        if !take_mark(cells, lo, read_packed(table, w * left, w)) {
+    for k in (0..offsets.len()).rev() {
+        if !take_mark(cells, lo, offsets.get(k)) {
             return false;
         }
     }
@@ -131,16 +103,8 @@ fn take_marks(cells: &mut [u8], table: &[u8], w: usize, count: usize, lo: usize)
 fn take_mark(cells: &mut [u8], lo: usize, x: usize) -> bool
     ensures { Takes lo x cells.old cells.new result }
 {
-    if x < lo {
-        return true;
+    match x.checked_sub(lo) {
+        Some(i) if i < cells.len() => mem::replace(&mut cells[i], 0) == 1,
+        _ => true,
     }
-    let i = x - lo;
-    if cells.len() <= i {
-        return true;
-    }
-    if cells[i] != 1 {
-        return false;
-    }
-    cells[i] = 0;
-    true
 }

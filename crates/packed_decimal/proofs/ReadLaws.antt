@@ -1,11 +1,10 @@
 -- What reading finds: the digits passed one by one, the number that they make, and the answers.
 use mathlib.Core.Path.{◌≡◌, refl, sym, ◌∙◌, ap}
-use mathlib.Core.Bool.{Bool, true, false, not, ◌||◌, true≢false, or_assoc, or-false, or-true}
+use mathlib.Core.Bool.{Bool, true, false, not, ◌||◌, true≢false, or-false, or-true}
 use mathlib.Core.List.{List, [], ◌∷◌, ◌++◌}
 use mathlib.Core.Option.{some}
 use Prim.Native.Nat.{ℕ, suc, ◌+◌, ◌-◌, ◌*◌, ◌/◌, ◌%◌, ◌^◌, ◌≤◌, ◌<◌, min}
 use native.Mathlib.Omega.{arith}
-use native.Mathlib.Numerals.{add-one}
 use lib.Dec.{ltb, eqb, lit<}
 use lib.IntN.{nat_abs}
 use lib.ListN.{get_or, length, take}

@@ -6,18 +6,16 @@ use Prim.Native.Nat.{ℕ, zero, suc, ◌+◌, ◌-◌, ◌*◌, ◌/◌, ◌%◌
 use native.Mathlib.Omega.{arith}
 use native.Mathlib.Nat.{pow-suc, zero-add, add-zero, le_trans, lt_of_le_of_lt}
 use native.Mathlib.Numerals.{add-one}
-use lib.Dec.{eqb, ltb, lit<}
+use lib.Dec.{ltb, lit<}
 use lib.IntN.{ℤ, pos, negsuc, nat_abs}
-use lib.Signed.{mag, lt_z, non_neg}
+use lib.Signed.{mag, non_neg}
 use lib.ListN.{length, set, length-append, length-set}
 use lib.Seq.{drop-cons, drop-set-lt, get_or-set_same}
-use borrow.Author.Tests.{ltb-false, eqb-true, eqb-false}
-use mir.Syntax.{w64}
-use mir.Val.{SFits, of_z, to_z}
+use borrow.Author.Tests.{ltb-false}
 use Rattle.encoding.specs.Rows.{first}
 use Rattle.encoding.specs.Signed.{whole}
 use Rattle.encoding.specs.Slices.{fits, write}
-use Rattle.encoding.proofs.SignedLaws.{sign, by_sign, by_no_sign, whole_natural, whole_negative}
+use Rattle.encoding.proofs.SignedLaws.{by_sign, by_no_sign, whole_natural, whole_negative}
 use Rattle.encoding.proofs.SliceLaws.{fits_within, write_none}
 use Rattle.packed_decimal.specs.PackedDecimal.{byte_of, pairs, digit_pairs, packed_bytes, sign_of}
 use Rattle.packed_decimal.specs.Calls.{WritesPacked, too_large}
@@ -45,9 +43,6 @@ pub record Splits (n u e d : ℕ) : Type 0 where
 
 pub splits : (n : ℕ) → Splits n (n / 100) (n / 10 % 10) (n % 10)
 splits n = record { is = omega arith; high = omega arith; low = omega arith }
-
-pub splits_less : {n u e d : ℕ} → Splits n u e d → 0 < n → u < n
-splits_less s z = omega arith
 
 -- the last pair stands behind those of the number without it
 last_pair : {n u e d : ℕ} → Splits n u e d → 0 < n → digit_pairs n ≡ digit_pairs u ++ (byte_of e d ∷ [])
@@ -97,9 +92,6 @@ one_more_lem {u = u} {e = e} {d = d} s z = ap length (last_pair s z) ∙ length-
 pub counts_again : {total n count u e d : ℕ} → Counts total n count → Splits n u e d → 0 < n → Counts total u (count + 1)
 counts_again c s z = record { same = (let a = one_more_lem s z in let m = c.same in omega arith); few = c.few }
 
-pub counts_fit : {total n count : ℕ} → Counts total n count → count + 1 < 2 ^ 64
-counts_fit c = let a = c.same in let b = c.few in omega arith
-
 pub counts_all : {total n count : ℕ} → Counts total n count → n ≡ 0 → count ≡ total
 unfolding pairs
 counts_all {count = count} c z = rw (z, add-zero) at c.same
@@ -122,9 +114,6 @@ pub record Fills (target : List ℕ) (long : ℕ) (l : List ℕ) (n i : ℕ) : T
   pub room : i ≤ long
   pub size : length l ≡ long
 
-pub fills_none : (l : List ℕ) (n i : ℕ) → i ≡ length (digit_pairs n) → i ≤ length l → Fills (write 0 (digit_pairs n) l) (length l) l n i
-fills_none l n i e h = record { same = refl; left = e; room = h; size = refl }
-
 pub fills_again : {target : List ℕ} {long : ℕ} {l : List ℕ} {n i u e d : ℕ} → Fills target long l n i → Splits n u e d → 0 < i
     → Fills target long (set l (i - 1) (byte_of e d)) u (i - 1)
 fills_again {l = l} {n = n} {i = i} {u = u} {e = e} {d = d} f s h =
@@ -139,9 +128,6 @@ fills_again {l = l} {n = n} {i = i} {u = u} {e = e} {d = d} f s h =
       room = omega arith;
       size = simp length-set y;
     }
-
-pub fills_place : {target : List ℕ} {long : ℕ} {l : List ℕ} {n i : ℕ} → Fills target long l n i → 0 < i → i - 1 < length l
-fills_place f h = let x = f.room in let y = f.size in omega arith
 
 pub fills_all : {target : List ℕ} {long : ℕ} {l : List ℕ} {n i : ℕ} → Fills target long l n i → i ≤ 0 → l ≡ target
 fills_all {l = l} {n = n} f h = write_none l 0 ∙ (rw (no_pairs n (let g = f.left in omega arith)) at f.same)
@@ -162,13 +148,6 @@ plus_natural h l p e = by_no_sign (λ z. mag z * 2 ^ 64 + l ≡ nat_abs (whole z
 pub whole_sign : (h : ℤ) (l : ℕ) → l < 2 ^ 64 → sign_of h ≡ sign_of (whole h l)
 whole_sign (pos n) l b = rw (whole_natural n l)
 whole_sign (negsuc n) l b = rw (whole_negative n l b)
-
--- the machine's test of the sign
-pub sign_below : (h : ℤ) → SFits w64 h → lt_z (to_z w64 (of_z w64 h)) (pos 0) ≡ true → 0xD ≡ sign_of h
-sign_below h f e = by_sign (λ z. 0xD ≡ sign_of z) h (sign h f) e (λ n. refl)
-
-pub sign_other : (h : ℤ) → SFits w64 h → lt_z (to_z w64 (of_z w64 h)) (pos 0) ≡ false → 0xC ≡ sign_of h
-sign_other h f e = by_no_sign (λ z. 0xC ≡ sign_of z) h (sign h f) e (λ n. refl)
 
 -- ---- the answers
 

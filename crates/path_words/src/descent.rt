@@ -18,6 +18,7 @@ pub(crate) fn child_over(v: &[u8], p: usize) -> Option<Child>
     }
 }
 
+// The step is as long as the element, so that no index counts.
 fn element_over(v: &[u8], p: usize) -> Option<Child>
     ensures { result ≡ element_over (length v.now) v.now p 0 (list_from v.now) }
 {

@@ -25,13 +25,8 @@ pub fn decimal<W: Write>(to: &mut W, n: u64) -> io::Result<()>
 pub fn hex<W: Write>(to: &mut W, bytes: &[u8], n: usize) -> io::Result<()>
     ensures { OnOk result (Appends (W.contents to.old) (W.contents to.new) (hex_digits (take n bytes.now))) }
 {
-    let mut i = 0;
-    while i < n {
-        if bytes.len() <= i {
-            return Ok(());
-        }
-        byte(to, bytes[i])?;
-        i += 1;
+    for b in &bytes[..n.min(bytes.len())] {
+        byte(to, *b)?;
     }
     Ok(())
 }
@@ -41,10 +36,11 @@ pub fn front<W: Write>(to: &mut W, bytes: &[u8], n: usize) -> io::Result<()>
     ensures { OnOk result (Appends (W.contents to.old) (W.contents to.new) (front_digits n bytes.now)) }
 {
     if n <= 16 {
-        return hex(to, bytes, n);
+        hex(to, bytes, n)
+    } else {
+        hex(to, bytes, 16)?;
+        text(to, b"..")
     }
-    hex(to, bytes, 16)?;
-    text(to, b"..")
 }
 
 fn byte<W: Write>(to: &mut W, b: u8) -> io::Result<()>

@@ -1,6 +1,6 @@
 -- Fields found: the code's walk over ids and offsets, and that it finds what the reading has.
 use mathlib.Core.Path.{◌≡◌, refl, sym, ◌∙◌, ap}
-use mathlib.Core.Bool.{Bool, true, false, cond, false≢true}
+use mathlib.Core.Bool.{Bool, true, false, cond, and-false, false≢true}
 use mathlib.Core.List.{List, [], ◌∷◌}
 use Prim.Native.Nat.{ℕ, suc, ◌+◌, ◌-◌, ◌%◌, ◌≤◌, ◌<◌}
 use native.Mathlib.Omega.{arith}
@@ -19,35 +19,25 @@ use Rattle.grammar.specs.Grammar.{among, starting}
 use Rattle.grammar.proofs.FieldLaws.{among_at}
 use Rattle.header_reader.proofs.StartLaws.{rest_is, start_high}
 use Rattle.grammar.specs.Tests.{starts_of, id_width, id_table, offset_width, offset_table, object_count, object_from, object_offsets, stored_ids, is_object_head}
-use Rattle.reader.specs.declared.FieldPlace.{FieldPlace}
-use Rattle.reader.specs.declared.FieldPlace.TheVariants as answer
-use Rattle.reader.specs.declared.FirstInteger.{FirstInteger}
-use Rattle.reader.specs.declared.FirstInteger.TheVariants as integer
-use Rattle.scalar_reader.specs.declared.integers.Integer.{Integer}
-use Rattle.scalar_reader.specs.declared.integers.Integer.TheVariants.{Number, Other}
+use Rattle.std.specs.Prelude.{Option, Some, None}
+use Rattle.reader.specs.declared.Part.{Part}
+use Rattle.reader.specs.declared.IntegerField.{IntegerField}
 use Rattle.scalar_reader.specs.Integers.{integer_in}
-use Rattle.reader.specs.Answers.{Inside, part_of, part_at, field_by, integer_by, or_next}
+use Rattle.reader.specs.Answers.{Inside, part, part_of, part_at, field_by, integer_by, or_next}
 
 -- ---- the part at a place
 
-pub no_part : (v : List ℕ) (p : FieldPlace) → ((s e : ℕ) → p ≡ answer.Part s e → ⊥) → [] ≡ part_of v p
+pub part_there : (v : List ℕ) (p : Part) → p.start ≤ p.end → p.end ≤ length v → take (p.end - p.start) (drop p.start v) ≡ part_of v (Some p)
 unfolding part_of
-no_part v (answer.Part s e) h = absurd (h s e refl)
-no_part v answer.Missing h = refl
-no_part v (answer.Refused n) h = refl
+part_there v p h k = rw (le-leb p.start p.end h, le-leb p.end (length v) k)
 
-module _ (v : List ℕ) {p : FieldPlace} {s e : ℕ} (i : p ≡ answer.Part s e) where
-  pub part_turned : e < s → [] ≡ part_of v p
-  unfolding part_of
-  part_turned h = rw (i, lt-leb s e h)
+pub part_turned : (v : List ℕ) (p : Part) → p.end < p.start → [] ≡ part_of v (Some p)
+unfolding part_of
+part_turned v p h = rw (lt-leb p.start p.end h)
 
-  pub part_over : s ≤ e → length v < e → [] ≡ part_of v p
-  unfolding part_of
-  part_over h k = rw (i, le-leb s e h, lt-leb e (length v) k)
-
-  pub part_there : s ≤ e → e ≤ length v → take (e - s) (drop s v) ≡ part_of v p
-  unfolding part_of
-  part_there h k = rw (i, le-leb s e h, le-leb e (length v) k)
+pub part_over : (v : List ℕ) (p : Part) → length v < p.end → [] ≡ part_of v (Some p)
+unfolding part_of
+part_over v p h = rw (lt-leb p.end (length v) h, and-false (leb p.start p.end))
 
 -- ---- the part of field k
 
@@ -57,7 +47,7 @@ end_room v at {n} h e =
     omega (arith, measured_within (drop at v), length-drop at v)
 
 pub part_placed : (v : List ℕ) (k : ℕ) {a b n : ℕ} → a ≡ object_from v → b ≡ get_or (object_offsets v) k 0 → n ≡ measured (take (length v - (a + b)) (drop (a + b) v))
-    → answer.Part (a + b) (a + b + n) ≡ part_at v (get_or (object_offsets v) k 0)
+    → part (a + b) (a + b + n) ≡ part_at v (get_or (object_offsets v) k 0)
 part_placed v k {a} {b} {n} x y e =
     let m : n ≡ measured (drop (a + b) v) = e ∙ ap measured (rest_is v (a + b)) in
     rw (m, x, y)
@@ -71,10 +61,10 @@ length_offsets : (v : List ℕ) → length (object_offsets v) ≡ object_count v
 length_offsets v = length_numbers (offset_width v) (object_count v) (drop (offset_table v) v)
 
 -- the fields from k on decide as all of them do
-pub record Seeks (names : List Name) (name v : List ℕ) (r : FieldPlace) (k : ℕ) : Type 0 where
+pub record Seeks (names : List Name) (name v : List ℕ) (r : Option Part) (k : ℕ) : Type 0 where
   pub rest : field_by names name v (drop k (stored_ids v)) (drop k (object_offsets v)) ≡ r
 
-pub record Hunts (v : List ℕ) (r : FirstInteger) (k : ℕ) : Type 0 where
+pub record Hunts (v : List ℕ) (r : Option IntegerField) (k : ℕ) : Type 0 where
   pub rest : integer_by v (drop k (stored_ids v)) (drop k (object_offsets v)) ≡ r
 
 split : (l : List ℕ) (k : ℕ) → k < length l → drop k l ≡ get_or l k 0 ∷ drop (k + 1) l
@@ -86,41 +76,41 @@ ids_split v k h = split (stored_ids v) k (rw (length_ids v) h)
 offsets_split : (v : List ℕ) (k : ℕ) → k < object_count v → drop k (object_offsets v) ≡ get_or (object_offsets v) k 0 ∷ drop (k + 1) (object_offsets v)
 offsets_split v k h = split (object_offsets v) k (rw (length_offsets v) h)
 
-module _ {names : List Name} {name v : List ℕ} {r : FieldPlace} {k : ℕ} (s : Seeks names name v r k) where
+module _ {names : List Name} {name v : List ℕ} {r : Option Part} {k : ℕ} (s : Seeks names name v r k) where
   next : k < object_count v
-      → cond (same (name_at names (get_or (stored_ids v) k 0)) name) (part_at v (get_or (object_offsets v) k 0)) (field_by names name v (drop (k + 1) (stored_ids v)) (drop (k + 1) (object_offsets v))) ≡ r
+      → cond (same (name_at names (get_or (stored_ids v) k 0)) name) (Some (part_at v (get_or (object_offsets v) k 0))) (field_by names name v (drop (k + 1) (stored_ids v)) (drop (k + 1) (object_offsets v))) ≡ r
   unfolding field_by
   next h = rw (ids_split v k h, offsets_split v k h) at s.rest
 
   module _ {i : ℕ} {t : Bool} (h : k < object_count v) (e : i ≡ get_or (stored_ids v) k 0) (u : t ≡ same (name_at names i) name) where
-    pub seeks_found : {p : FieldPlace} → t ≡ true → p ≡ part_at v (get_or (object_offsets v) k 0) → p ≡ r
-    seeks_found y q = q ∙ (rw (← e, ← u, y) at (next h))
+    pub seeks_found : {p : Part} → t ≡ true → p ≡ part_at v (get_or (object_offsets v) k 0) → Some p ≡ r
+    seeks_found y q = ap Some q ∙ (rw (← e, ← u, y) at (next h))
 
     pub seeks_again : t ≡ false → Seeks names name v r (k + 1)
     seeks_again y = record { rest = rw (← e, ← u, y) at (next h) }
 
-  pub seeks_none : object_count v ≤ k → answer.Missing ≡ r
+  pub seeks_none : object_count v ≤ k → None ≡ r
   unfolding field_by
   seeks_none h = let l = length_ids v in rw (drop_of_length-le (stored_ids v) {i = k} (omega arith)) at s.rest
 
-module _ {v : List ℕ} {r : FirstInteger} {k : ℕ} (s : Hunts v r k) where
+module _ {v : List ℕ} {r : Option IntegerField} {k : ℕ} (s : Hunts v r k) where
   number_next : k < object_count v
-      → or_next (integer_in (part_of v (part_at v (get_or (object_offsets v) k 0)))) (get_or (stored_ids v) k 0) (integer_by v (drop (k + 1) (stored_ids v)) (drop (k + 1) (object_offsets v))) ≡ r
+      → or_next (integer_in (part_of v (Some (part_at v (get_or (object_offsets v) k 0))))) (get_or (stored_ids v) k 0) (integer_by v (drop (k + 1) (stored_ids v)) (drop (k + 1) (object_offsets v))) ≡ r
   unfolding integer_by
   number_next h = rw (ids_split v k h, offsets_split v k h) at s.rest
 
-  module _ {i : ℕ} {p : FieldPlace} {bytes : List ℕ} {x : Integer} (h : k < object_count v) (e : i ≡ get_or (stored_ids v) k 0) (q : p ≡ part_at v (get_or (object_offsets v) k 0))
-      (b : bytes ≡ part_of v p) (j : x ≡ integer_in bytes) where
-    told : x ≡ integer_in (part_of v (part_at v (get_or (object_offsets v) k 0)))
-    told = j ∙ ap integer_in (b ∙ ap (part_of v) q)
+  module _ {i : ℕ} {p : Part} {bytes : List ℕ} {x : Option ℤ} (h : k < object_count v) (e : i ≡ get_or (stored_ids v) k 0) (q : p ≡ part_at v (get_or (object_offsets v) k 0))
+      (b : bytes ≡ part_of v (Some p)) (j : x ≡ integer_in bytes) where
+    told : x ≡ integer_in (part_of v (Some (part_at v (get_or (object_offsets v) k 0))))
+    told = j ∙ ap integer_in (b ∙ ap (λ o. part_of v (Some o)) q)
 
-    pub hunts_found : {n : ℤ} → x ≡ Number n → integer.Found i n ≡ r
+    pub hunts_found : {n : ℤ} → x ≡ Some n → Some (record { id = i; number = n }) ≡ r
     hunts_found y = rw (← told, y, ← e) at (number_next h)
 
-    pub hunts_again : x ≡ Other → Hunts v r (k + 1)
+    pub hunts_again : x ≡ None → Hunts v r (k + 1)
     hunts_again y = record { rest = rw (← told, y) at (number_next h) }
 
-  pub hunts_none : object_count v ≤ k → integer.Missing ≡ r
+  pub hunts_none : object_count v ≤ k → None ≡ r
   unfolding integer_by
   hunts_none h = let l = length_ids v in rw (drop_of_length-le (stored_ids v) {i = k} (omega arith)) at s.rest
 

@@ -8,11 +8,11 @@ use lib.Dec.{eqb, ltb}
 use lib.ListN.{length, take, drop, get_or, length-drop}
 use lib.Seq.{drop-cons, drop-drop}
 use borrow.Author.Tests.{eq-eqb, ne_eqb, lt-ltb, le-ltb, ltb-true}
+use Rattle.std.specs.Prelude.{Some, None}
 use Rattle.metadata.specs.Names.{Name}
-use Rattle.measure.specs.Measure.{measured}
-use Rattle.measure.proofs.MeasureLaws.{measured_within}
+use Rattle.measure.specs.Measure.{measured, some_length}
 use Rattle.grammar.proofs.CutLaws.{each_fuel}
-use Rattle.header_reader.proofs.StartLaws.{rest_is}
+use Rattle.header_reader.proofs.StartLaws.{rest_is, walked, walked_none, walked_within}
 use Rattle.grammar.specs.Tests.{each_value, is_scalar, is_list_head, is_object_head, list_from, list_head, object_from, object_head, is_value}
 
 -- ---- the values that are left decide as all of them do
@@ -40,34 +40,33 @@ each_next f (suc n) bytes h k = rw (ne_eqb (length bytes) 0 (omega arith)) (go (
         let l = length-drop (measured bytes) bytes in
         rw (each_fuel f n rest (omega arith), each_fuel f (suc n) rest (omega arith))
 
-module _ {f : List ℕ → Bool} {t : Bool} {v : List ℕ} {at : ℕ} (w : Walks f t v at) {n : ℕ} (e : n ≡ measured (take (length v - at) (drop at v))) where
-  pub walks_room : at + n ≤ length v
-  walks_room =
-      let l = w.low in
-      let m : n ≡ measured (drop at v) = e ∙ ap measured (rest_is v at) in
-      omega (arith, measured_within (drop at v), length-drop at v)
+module _ {f : List ℕ → Bool} {t : Bool} {v : List ℕ} {at : ℕ} (w : Walks f t v at) where
+  next : {n : ℕ} → n ≡ measured (drop at v) → at < length v → (ltb 0 n && (f (take n (drop at v)) && each_value f (length v) (drop (at + n) v))) ≡ t
+  next {n} m h =
+      let l = length-drop at v in
+      rw (← drop-drop n at v) (rw (each_next f (length v) (drop at v) (omega arith) (omega arith), ← m) at w.rest)
 
-  module _ (h : at < length v) where
-    next : (ltb 0 n && (f (take n (drop at v)) && each_value f (length v) (drop (at + n) v))) ≡ t
-    next =
-        let m : n ≡ measured (drop at v) = e ∙ ap measured (rest_is v at) in
-        let l = length-drop at v in
-        rw (← drop-drop n at v) (rw (each_next f (length v) (drop at v) (omega arith) (omega arith), ← m) at w.rest)
+  -- what is no whole value is still there
+  pub walks_cut : None ≡ some_length (measured (take (length v - at) (drop at v))) → at < length v → eqb at (length v) ≡ t
+  walks_cut e h = rw (ne_eqb at (length v) (omega arith)) (next {n = 0} (sym (walked_none v at e)) h)
 
-    -- what is no whole value is still there
-    pub walks_cut : n ≡ 0 → eqb at (length v) ≡ t
-    walks_cut z = rw (ne_eqb at (length v) (omega arith)) (rw z at next)
+  module _ {n : ℕ} (e : Some n ≡ some_length (measured (take (length v - at) (drop at v)))) where
+    pub walks_room : at + n ≤ length v
+    walks_room = walked_within v at n w.low (walked v at e).0
 
-    module _ (k : n ≡ 0 → ⊥) where
-      -- the next value, as the code cuts it
-      part_is : take (at + n - at) (drop at v) ≡ take n (drop at v)
-      part_is = let z : at + n - at ≡ n = omega arith in rw z
+    pub walks_more : 0 < n
+    walks_more = (walked v at e).1
 
+    -- the next value, as the code cuts it
+    part_is : take (at + n - at) (drop at v) ≡ take n (drop at v)
+    part_is = let z : at + n - at ≡ n = omega arith in rw z
+
+    module _ (h : at < length v) where
       pub part_first : get_or (take (at + n - at) (drop at v)) 0 0 ≡ get_or v at 0
-      part_first = let z : at + n - at ≡ suc (n - 1) = omega arith in rw (z, drop-cons v at 0 h)
+      part_first = let z : at + n - at ≡ suc (n - 1) = omega (arith, walks_more) in rw (z, drop-cons v at 0 h)
 
       judged : (f (take (at + n - at) (drop at v)) && each_value f (length v) (drop (at + n) v)) ≡ t
-      judged = rw (part_is) (rw (lt-ltb 0 n (omega arith)) at next)
+      judged = rw (part_is) (rw (lt-ltb 0 n walks_more) at (next (walked v at e).0 h))
 
       pub walks_bad : f (take (at + n - at) (drop at v)) ≡ false → false ≡ t
       walks_bad b = rw b at judged
@@ -133,40 +132,41 @@ module _ (names : List Name) (v : List ℕ) where
   value_object zero h k = absurd (k refl)
   value_object (suc d) h k = let e : suc d - 1 ≡ d = omega arith in rw (not_scalar (omega arith), not_list (omega arith), e)
 
-  -- a header that does not pass has size 0
-  headless : (t u : Bool) (from : ℕ) {r : ℕ} → 0 < from → r ≡ cond t from 0 → r ≡ 0 → false ≡ (t && u)
-  headless true u from h e z = absurd (omega arith)
-  headless false u from h e z = refl
+  -- a header that does not pass
+  headless : (t u : Bool) (from : ℕ) → None ≡ cond t (Some from) None → false ≡ (t && u)
+  headless true u from e = cc
+  headless false u from e = refl
 
   -- the data behind one that passes
-  headed : (f : List ℕ → Bool) (t : Bool) (from : ℕ) {r : ℕ} {s : Bool} → r ≡ cond t from 0 → (r ≡ 0 → ⊥)
+  headed : (f : List ℕ → Bool) (t : Bool) (from : ℕ) {r : ℕ} {s : Bool} → Some r ≡ cond t (Some from) None
       → s ≡ each_value f (length (take (length v - r) (drop r v))) (take (length v - r) (drop r v)) → s ≡ (t && each_value f (length v) (drop from v))
-  headed f false from e z k = absurd (z e)
-  headed f true from {r} {s} e z k =
+  headed f false from e k = cc
+  headed f true from {r} {s} e k =
       let l = length-drop from v in
-      k ∙ (ap (λ d. each_value f (length d) d) (rest_is v r) ∙ (ap (λ n. each_value f (length (drop n v)) (drop n v)) e ∙ sym (each_fuel f (length v) (drop from v) (omega arith))))
+      let q : r ≡ from = cc in
+      k ∙ (ap (λ d. each_value f (length d) d) (rest_is v r) ∙ (ap (λ n. each_value f (length (drop n v)) (drop n v)) q ∙ sym (each_fuel f (length v) (drop from v) (omega arith))))
 
-  module _ {depth r : ℕ} (h : kind ≡ 3) (k : depth ≡ 0 → ⊥) (e : r ≡ list_head v) where
-    pub list_headless : r ≡ 0 → false ≡ is_value names depth v
-    list_headless z = headless (is_list_head v) _ (list_from v) (omega arith) e z ∙ sym (value_list depth h k)
+  module _ {depth : ℕ} (h : kind ≡ 3) (k : depth ≡ 0 → ⊥) where
+    pub list_headless : None ≡ list_head v → false ≡ is_value names depth v
+    list_headless e = headless (is_list_head v) _ (list_from v) e ∙ sym (value_list depth h k)
 
-    pub list_headed : {s : Bool} → (r ≡ 0 → ⊥) → s ≡ each_value (is_value names (depth - 1)) (length (take (length v - r) (drop r v))) (take (length v - r) (drop r v))
+    pub list_headed : {r : ℕ} {s : Bool} → Some r ≡ list_head v → s ≡ each_value (is_value names (depth - 1)) (length (take (length v - r) (drop r v))) (take (length v - r) (drop r v))
         → s ≡ is_value names depth v
-    list_headed z b = headed (is_value names (depth - 1)) (is_list_head v) (list_from v) e z b ∙ sym (value_list depth h k)
+    list_headed e b = headed (is_value names (depth - 1)) (is_list_head v) (list_from v) e b ∙ sym (value_list depth h k)
 
-  module _ {depth r : ℕ} (h : kind ≡ 2) (k : depth ≡ 0 → ⊥) (e : r ≡ object_head names v) where
-    pub object_headless : r ≡ 0 → false ≡ is_value names depth v
-    object_headless z = headless (is_object_head names v) _ (object_from v) (omega arith) e z ∙ sym (value_object depth h k)
+  module _ {depth : ℕ} (h : kind ≡ 2) (k : depth ≡ 0 → ⊥) where
+    pub object_headless : None ≡ object_head names v → false ≡ is_value names depth v
+    object_headless e = headless (is_object_head names v) _ (object_from v) e ∙ sym (value_object depth h k)
 
-    pub object_headed : {s : Bool} → (r ≡ 0 → ⊥) → s ≡ each_value (is_value names (depth - 1)) (length (take (length v - r) (drop r v))) (take (length v - r) (drop r v))
+    pub object_headed : {r : ℕ} {s : Bool} → Some r ≡ object_head names v → s ≡ each_value (is_value names (depth - 1)) (length (take (length v - r) (drop r v))) (take (length v - r) (drop r v))
         → s ≡ is_value names depth v
-    object_headed z b = headed (is_value names (depth - 1)) (is_object_head names v) (object_from v) e z b ∙ sym (value_object depth h k)
+    object_headed e b = headed (is_value names (depth - 1)) (is_object_head names v) (object_from v) e b ∙ sym (value_object depth h k)
 
 -- of a container's data, as the code cuts it
-module _ {f : List ℕ → Bool} {t : Bool} {v : List ℕ} {at : ℕ} (w : Walks f t v at) {n : ℕ} (e : n ≡ measured (take (length v - at) (drop at v))) (h : at < length v) (k : n ≡ 0 → ⊥) where
+module _ {f : List ℕ → Bool} {t : Bool} {v : List ℕ} {at : ℕ} (w : Walks f t v at) {n : ℕ} (e : Some n ≡ some_length (measured (take (length v - at) (drop at v)))) (h : at < length v) where
   pub part_scalar : (names : List Name) (depth : ℕ) {s : Bool} → (get_or v at 0 % 4 ≡ 3 → ⊥) → (get_or v at 0 % 4 ≡ 2 → ⊥) → s ≡ is_scalar (take (at + n - at) (drop at v))
       → s ≡ is_value names depth (take (at + n - at) (drop at v))
-  part_scalar names depth a b p = p ∙ sym (value_scalar names _ depth (rw (part_first w e h k) a) (rw (part_first w e h k) b))
+  part_scalar names depth a b p = p ∙ sym (value_scalar names _ depth (rw (part_first w e h) a) (rw (part_first w e h) b))
 
 -- no bytes are no value
 pub value_none : (names : List Name) (depth : ℕ) (v : List ℕ) → length v ≡ 0 → false ≡ is_value names depth v

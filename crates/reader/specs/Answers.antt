@@ -1,5 +1,5 @@
 -- document 02, A6: what is found in a pair that is read, over its reading.
-use Rattle.std.specs.Prelude.{◌≡◌, cond, ◌&&◌, List, [], ◌∷◌, ℕ, ◌+◌, ◌-◌, ◌≤◌, ◌<◌, leb, drop, get_or, length, take}
+use Rattle.std.specs.Prelude.{◌≡◌, cond, ◌&&◌, List, [], ◌∷◌, ℕ, ◌+◌, ◌-◌, ◌≤◌, ◌<◌, leb, ℤ, Option, Some, None, Result, Ok, Err, drop, get_or, length, take}
 use Rattle.encoding.specs.Rows.{first}
 use Rattle.metadata.specs.Names.{Name, same}
 use Rattle.metadata.specs.Bytes.{dictionary_names, joined}
@@ -9,77 +9,79 @@ use Rattle.measure.specs.Measure.{measured}
 use Rattle.grammar.specs.Grammar.{Shape, scalar, list, object, Shapes, layout, layouts, ReadsValue}
 use Rattle.grammar.specs.Tests.{object_count, object_from, object_offsets, pair_rows, stored_ids}
 use Rattle.grammar.specs.Fields.{shape_at}
-use Rattle.reader.specs.declared.FieldPlace.{FieldPlace}
-use Rattle.reader.specs.declared.FieldPlace.TheVariants as answer
-use Rattle.reader.specs.declared.FirstInteger.{FirstInteger}
-use Rattle.reader.specs.declared.FirstInteger.TheVariants as integer
-use Rattle.scalar_reader.specs.declared.integers.Integer.{Integer}
-use Rattle.scalar_reader.specs.declared.integers.Integer.TheVariants.{Number, Other}
+use Rattle.reader.specs.declared.Part.{Part}
+use Rattle.reader.specs.declared.IntegerField.{IntegerField}
+use Rattle.reader.specs.declared.errors.ReadError.{ReadError}
+use Rattle.reader.specs.declared.errors.ReadError.TheVariants.{BadDictionary, BadValue}
 use Rattle.scalar_reader.specs.Integers.{integer_in, integer_of}
+
+-- ---- refusals
+
+-- a refusal's number in the table
+abbrev pub error_number : ReadError → ℕ
+error_number BadDictionary = 19
+error_number BadValue = 20
+
+-- an answer's, 0 without a refusal
+abbrev pub number_of : {T : Type 0} → Result T ReadError → ℕ
+number_of (Ok x) = 0
+number_of (Err e) = error_number e
 
 -- ---- by name
 
+-- from a place up to another
+abbrev pub part : ℕ → ℕ → Part
+part start end = record { start = start; end = end }
+
 -- of the fields, in the header's order, the first that has this name; `from` bytes stand before the values
-unfoldable pub field_among : List Name → Name → ℕ → Shapes → List Entry → FieldPlace
-field_among names name from ts [] = answer.Missing
+unfoldable pub field_among : List Name → Name → ℕ → Shapes → List Entry → Option Part
+field_among names name from ts [] = None
 field_among names name from ts (e ∷ es) =
-    cond (same (name_at names e.id) name) (answer.Part (from + e.offset) (from + e.offset + length (layout (shape_at e.offset 0 ts)))) (field_among names name from ts es)
+    cond (same (name_at names e.id) name) (Some (part (from + e.offset) (from + e.offset + length (layout (shape_at e.offset 0 ts))))) (field_among names name from ts es)
 
 -- "By name, a field's value is handed back as the part of the caller's bytes it occupies, or the answer says that there is no such field, as
 -- for a value that is no object"
-unfoldable pub field_in : List Name → Name → Shape → FieldPlace
-field_in names name (scalar s) = answer.Missing
-field_in names name (list w big ts) = answer.Missing
+unfoldable pub field_in : List Name → Name → Shape → Option Part
+field_in names name (scalar s) = None
+field_in names name (list w big ts) = None
 field_in names name (object w u big es ts) = field_among names name (length (layout (object w u big es ts)) - length (joined (layouts ts))) ts es
 
--- an answer's number in the table, 0 without a refusal
-abbrev pub place_number : FieldPlace → ℕ
-place_number (answer.Part start end) = 0
-place_number answer.Missing = 0
-place_number (answer.Refused n) = n
-
 -- a field looked for by name: refused as the pair is, else by the pair's reading
-pub record FindsField (d v name : List ℕ) (r : FieldPlace) : Type 0 where
-  pub number : place_number r ≡ first (pair_rows d v)
-  pub found : (t : Shape) → ReadsValue (dictionary_names d) v t → place_number r ≡ 0 → r ≡ field_in (dictionary_names d) name t
+pub record FindsField (d v name : List ℕ) (r : Result (Option Part) ReadError) : Type 0 where
+  pub number : number_of r ≡ first (pair_rows d v)
+  pub found : (t : Shape) → ReadsValue (dictionary_names d) v t → number_of r ≡ 0 → r ≡ Ok (field_in (dictionary_names d) name t)
 
 -- the part of the bytes that lies at a place; none where it does not lie in them
-unfoldable pub part_of : List ℕ → FieldPlace → List ℕ
-part_of v (answer.Part start end) = cond (leb start end && leb end (length v)) (take (end - start) (drop start v)) []
-part_of v answer.Missing = []
-part_of v (answer.Refused n) = []
+unfoldable pub part_of : List ℕ → Option Part → List ℕ
+part_of v (Some p) = cond (leb p.start p.end && leb p.end (length v)) (take (p.end - p.start) (drop p.start v)) []
+part_of v None = []
 
 -- ---- the first integer
 
 -- what a shape is to a caller who wants a number; a container is none
-abbrev pub integer_shape : Shape → Integer
+abbrev pub integer_shape : Shape → Option ℤ
 integer_shape (scalar s) = integer_of s
-integer_shape (list w big ts) = Other
-integer_shape (object w u big es ts) = Other
+integer_shape (list w big ts) = None
+integer_shape (object w u big es ts) = None
 
 -- "a caller wanting a number takes it or goes on to the next field"
-abbrev pub or_next : Integer → ℕ → FirstInteger → FirstInteger
-or_next (Number n) id next = integer.Found id n
-or_next Other id next = next
+abbrev pub or_next : Option ℤ → ℕ → Option IntegerField → Option IntegerField
+or_next (Some n) id next = Some (record { id = id; number = n })
+or_next None id next = next
 
-unfoldable pub integer_among : Shapes → List Entry → FirstInteger
-integer_among ts [] = integer.Missing
+unfoldable pub integer_among : Shapes → List Entry → Option IntegerField
+integer_among ts [] = None
 integer_among ts (e ∷ es) = or_next (integer_shape (shape_at e.offset 0 ts)) e.id (integer_among ts es)
 
 -- "So a call gives the id and number of a value's first field, in order of names, that is int8 to int64, or says none."
-unfoldable pub integer_first : Shape → FirstInteger
-integer_first (scalar s) = integer.Missing
-integer_first (list w big ts) = integer.Missing
+unfoldable pub integer_first : Shape → Option IntegerField
+integer_first (scalar s) = None
+integer_first (list w big ts) = None
 integer_first (object w u big es ts) = integer_among ts es
 
-abbrev pub integer_number : FirstInteger → ℕ
-integer_number (integer.Found id n) = 0
-integer_number integer.Missing = 0
-integer_number (integer.Refused n) = n
-
-pub record FindsInteger (d v : List ℕ) (r : FirstInteger) : Type 0 where
-  pub number : integer_number r ≡ first (pair_rows d v)
-  pub found : (t : Shape) → ReadsValue (dictionary_names d) v t → integer_number r ≡ 0 → r ≡ integer_first t
+pub record FindsInteger (d v : List ℕ) (r : Result (Option IntegerField) ReadError) : Type 0 where
+  pub number : number_of r ≡ first (pair_rows d v)
+  pub found : (t : Shape) → ReadsValue (dictionary_names d) v t → number_of r ≡ 0 → r ≡ Ok (integer_first t)
 
 -- ---- For the code, over bytes
 
@@ -88,24 +90,24 @@ abbrev pub Inside : List ℕ → Type 0
 Inside v = (k : ℕ) → k < object_count v → object_from v + get_or (object_offsets v) k 0 ≤ length v
 
 -- the value at an offset: it is as long as its own first bytes say
-abbrev pub part_at : List ℕ → ℕ → FieldPlace
-part_at v n = answer.Part (object_from v + n) (object_from v + n + measured (drop (object_from v + n) v))
+abbrev pub part_at : List ℕ → ℕ → Part
+part_at v n = part (object_from v + n) (object_from v + n + measured (drop (object_from v + n) v))
 
 -- by ids and offsets as the header has them
-unfoldable pub field_by : List Name → Name → List ℕ → List ℕ → List ℕ → FieldPlace
-field_by names name v [] ns = answer.Missing
-field_by names name v (i ∷ is) [] = answer.Missing
-field_by names name v (i ∷ is) (n ∷ ns) = cond (same (name_at names i) name) (part_at v n) (field_by names name v is ns)
+unfoldable pub field_by : List Name → Name → List ℕ → List ℕ → List ℕ → Option Part
+field_by names name v [] ns = None
+field_by names name v (i ∷ is) [] = None
+field_by names name v (i ∷ is) (n ∷ ns) = cond (same (name_at names i) name) (Some (part_at v n)) (field_by names name v is ns)
 
 -- of all fields
-abbrev pub field_found : List Name → Name → List ℕ → FieldPlace
+abbrev pub field_found : List Name → Name → List ℕ → Option Part
 field_found names name v = field_by names name v (stored_ids v) (object_offsets v)
 
 -- the first number, alike
-unfoldable pub integer_by : List ℕ → List ℕ → List ℕ → FirstInteger
-integer_by v [] ns = integer.Missing
-integer_by v (i ∷ is) [] = integer.Missing
-integer_by v (i ∷ is) (n ∷ ns) = or_next (integer_in (part_of v (part_at v n))) i (integer_by v is ns)
+unfoldable pub integer_by : List ℕ → List ℕ → List ℕ → Option IntegerField
+integer_by v [] ns = None
+integer_by v (i ∷ is) [] = None
+integer_by v (i ∷ is) (n ∷ ns) = or_next (integer_in (part_of v (Some (part_at v n)))) i (integer_by v is ns)
 
-abbrev pub integer_found : List ℕ → FirstInteger
+abbrev pub integer_found : List ℕ → Option IntegerField
 integer_found v = integer_by v (stored_ids v) (object_offsets v)

@@ -2,25 +2,25 @@
 // function demands anything of its caller.
 #![tactic(auto)]
 
+mod errors;
 mod fields;
 mod read;
 mod validate;
 
+pub use errors::ReadError;
 pub use fields::{field, find_field, first_integer};
 pub use read::read_pair;
 
-// Where a field's value lies in the value's bytes; that there is no such field; or 19 or 20.
-#[derive(Clone, Copy)]
-pub enum FieldPlace {
-    Part { start: usize, end: usize },
-    Missing,
-    Refused(u8),
+// Where a field's value lies in the value's bytes.
+#[derive(Clone, Copy, PartialEq, Eq, Debug)]
+pub struct Part {
+    pub start: usize,
+    pub end: usize,
 }
 
-// The id and number of the first field that is an integer; that there is none; or 19 or 20.
-#[derive(Clone, Copy)]
-pub enum FirstInteger {
-    Found { id: usize, number: i64 },
-    Missing,
-    Refused(u8),
+// A field that is an integer: its stored id, and the number.
+#[derive(Clone, Copy, PartialEq, Eq, Debug)]
+pub struct IntegerField {
+    pub id: usize,
+    pub number: i64,
 }

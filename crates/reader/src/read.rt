@@ -2,22 +2,21 @@
 ghost use Rattle.std.specs.Prelude.{◌≡◌};
 ghost use Rattle.encoding.specs.Rows.{first};
 ghost use Rattle.grammar.specs.Tests.{pair_rows};
+ghost use Rattle.reader.specs.Answers.{number_of};
 
+use crate::ReadError;
 use crate::validate::value_ok;
 use lexicon::read_dictionary;
 
-// 19 for a bad dictionary, which is judged first; 20 for a value outside the grammar; else 0.
-pub fn read_pair(d: &[u8], v: &[u8]) -> u8
-    ensures { result ≡ first (pair_rows d.now v.now) }
+// A bad dictionary, which is judged first; else a value outside the grammar. The two slices stay apart, as the C calls lend them: a struct of both
+// would be made and taken apart at each call.
+pub fn read_pair(d: &[u8], v: &[u8]) -> Result<(), ReadError>
+    ensures { number_of result ≡ first (pair_rows d.now v.now) }
 {
-    let Ok(_) = read_dictionary(d) else {
-        return 19;
-    };
-    if 4294967295 < v.len() {
-        return 20;
+    read_dictionary(d)?;
+    if v.len() <= 4294967295 && value_ok(d, v, 64) {
+        Ok(())
+    } else {
+        Err(ReadError::BadValue)
     }
-    if value_ok(d, v, 64) {
-        return 0;
-    }
-    20
 }

@@ -11,10 +11,10 @@ use scalar_reader::is_scalar;
 pub(crate) fn value_ok(d: &[u8], v: &[u8], depth: usize) -> bool
     ensures { result ≡ is_value (dictionary_names d.now) depth v.now }
 {
-    if v.len() == 0 {
+    let [first, ..] = v else {
         return false;
-    }
-    match v[0] % 4 {
+    };
+    match *first % 4 {
         3 => list_ok(d, v, depth),
         2 => object_ok(d, v, depth),
         _ => is_scalar(v),
@@ -30,10 +30,9 @@ fn list_ok(d: &[u8], v: &[u8], depth: usize) -> bool
     if depth == 0 {
         return false;
     }
-    let from = list_head(v);
-    if from == 0 {
+    let Some(from) = list_head(v) else {
         return false;
-    }
+    };
     values_ok(d, &v[from..], depth - 1)
 }
 
@@ -46,24 +45,23 @@ fn object_ok(d: &[u8], v: &[u8], depth: usize) -> bool
     if depth == 0 {
         return false;
     }
-    let from = object_head(d, v);
-    if from == 0 {
+    let Some(from) = object_head(d, v) else {
         return false;
-    }
+    };
     values_ok(d, &v[from..], depth - 1)
 }
 
-// Is a container's data whole values end to end? A scalar is judged where it stands; a list or an object by its own function.
+// Is a container's data whole values end to end? A scalar is judged where it stands; a list or an object by its own function. A `while`, since each
+// step is a stored length, and where the walk ends decides.
 #[cycle(list_ok_object_ok_values_ok)]
 fn values_ok(d: &[u8], v: &[u8], depth: usize) -> bool
     ensures { result ≡ each_value (is_value (dictionary_names d.now) depth) (length v.now) v.now }
 {
     let mut at = 0;
     while at < v.len() {
-        let n = value_length(&v[at..]).unwrap_or(0);
-        if n == 0 {
+        let Some(n) = value_length(&v[at..]) else {
             break;
-        }
+        };
         let next = at + n;
         let part = &v[at..next];
         let ok = match v[at] % 4 {

@@ -1,12 +1,11 @@
 -- What the reader's calls answer as numbers, over what stood there.
-use Rattle.std.specs.Prelude.{◌≡◌, cond, List, ℕ, eqb, ℤ, length}
+use Rattle.std.specs.Prelude.{◌≡◌, cond, List, ℕ, eqb, ℤ, Option, Some, None, Result, Ok, Err, length}
 use Rattle.encoding.specs.Rows.{first}
 use Rattle.encoding.specs.Slices.{write}
-use Rattle.reader.specs.declared.FieldPlace.{FieldPlace}
-use Rattle.reader.specs.declared.FieldPlace.TheVariants as place
-use Rattle.reader.specs.declared.FirstInteger.{FirstInteger}
-use Rattle.reader.specs.declared.FirstInteger.TheVariants as integer
-use Rattle.reader.specs.Answers.{FindsField, FindsInteger, place_number, integer_number}
+use Rattle.reader.specs.declared.Part.{Part}
+use Rattle.reader.specs.declared.IntegerField.{IntegerField}
+use Rattle.reader.specs.declared.errors.ReadError.{ReadError}
+use Rattle.reader.specs.Answers.{FindsField, FindsInteger, number_of}
 use Rattle.small_values.specs.Small.{file_of, small_rows}
 
 -- ---- a field by its name
@@ -20,15 +19,15 @@ abbrev pub field_words : ℕ → ℕ → ℕ → FieldWords
 field_words kind start end = record { kind = kind; start = start; end = end }
 
 -- a part is kind 0, "no such field" kind 1; a refused call leaves all of them
-abbrev pub field_over : FieldWords → FieldPlace → FieldWords
-field_over w (place.Part start end) = field_words 0 start end
-field_over w place.Missing = field_words 1 w.start w.end
-field_over w (place.Refused n) = w
+abbrev pub field_over : FieldWords → Result (Option Part) ReadError → FieldWords
+field_over w (Ok (Some p)) = field_words 0 p.start p.end
+field_over w (Ok None) = field_words 1 w.start w.end
+field_over w (Err e) = w
 
 pub record TellsField (n : ℕ) (d v name : List ℕ) (before after : FieldWords) : Type 0 where
-  pub answer : FieldPlace
+  pub answer : Result (Option Part) ReadError
   pub finds : FindsField d v name answer
-  pub number : n ≡ place_number answer
+  pub number : n ≡ number_of answer
   pub words : after ≡ field_over before answer
 
 -- ---- the first integer
@@ -41,15 +40,15 @@ pub record IntegerWords : Type 0 where
 abbrev pub integer_words : ℕ → ℕ → ℤ → IntegerWords
 integer_words kind id number = record { kind = kind; id = id; number = number }
 
-abbrev pub integer_over : IntegerWords → FirstInteger → IntegerWords
-integer_over w (integer.Found id number) = integer_words 0 id number
-integer_over w integer.Missing = integer_words 1 w.id w.number
-integer_over w (integer.Refused n) = w
+abbrev pub integer_over : IntegerWords → Result (Option IntegerField) ReadError → IntegerWords
+integer_over w (Ok (Some f)) = integer_words 0 f.id f.number
+integer_over w (Ok None) = integer_words 1 w.id w.number
+integer_over w (Err e) = w
 
 pub record TellsInteger (n : ℕ) (d v : List ℕ) (before after : IntegerWords) : Type 0 where
-  pub answer : FirstInteger
+  pub answer : Result (Option IntegerField) ReadError
   pub finds : FindsInteger d v answer
-  pub answered : n ≡ integer_number answer
+  pub answered : n ≡ number_of answer
   pub words : after ≡ integer_over before answer
 
 -- ---- all the small values

@@ -7,15 +7,18 @@ ghost use Rattle.encoding.specs.Rows.{first};
 ghost use Rattle.grammar.specs.Tests.{pair_rows};
 ghost use Rattle.reader_ffi.specs.Words.{TellsField, TellsInteger, TellsSmall, field_words, integer_words};
 
-use reader::{FieldPlace, FirstInteger, find_field, first_integer, read_pair};
-use small_values::{SmallValues, write_small_values};
+use reader::{find_field, first_integer, read_pair};
+use small_values::{SmallError, write_small_values};
 
 // 19 where `metadata` is no whole dictionary, then 20 where `value` is not one value of the grammar over its names, else 0.
 #[unsafe(no_mangle)]
 pub extern "C" fn variant_read(metadata: &[u8], value: &[u8]) -> u8
     ensures { result ≡ first (pair_rows metadata.now value.now) }
 {
-    read_pair(metadata, value)
+    match read_pair(metadata, value) {
+        Ok(()) => 0,
+        Err(error) => error.number(),
+    }
 }
 
 // 19 or 20 as above; else 0, and `kind` is 0 where the object has a field of this name, whose value lies from `start` up to `end`, or 1 where
@@ -33,19 +36,18 @@ pub extern "C" fn variant_field(
         (field_words kind.old start.old end.old)
         (field_words kind.new start.new end.new) }
 {
-    let p = find_field(metadata, value, name);
-    match p {
-        FieldPlace::Part { start: s, end: e } => {
+    match find_field(metadata, value, name) {
+        Ok(Some(part)) => {
             *kind = 0;
-            *start = s;
-            *end = e;
+            *start = part.start;
+            *end = part.end;
             0
         }
-        FieldPlace::Missing => {
+        Ok(None) => {
             *kind = 1;
             0
         }
-        FieldPlace::Refused(n) => n,
+        Err(error) => error.number(),
     }
 }
 
@@ -63,19 +65,18 @@ pub extern "C" fn variant_first_integer(
         (integer_words kind.old id.old number.old)
         (integer_words kind.new id.new number.new) }
 {
-    let f = first_integer(metadata, value);
-    match f {
-        FirstInteger::Found { id: i, number: n } => {
+    match first_integer(metadata, value) {
+        Ok(Some(field)) => {
             *kind = 0;
-            *id = i;
-            *number = n;
+            *id = field.id;
+            *number = field.number;
             0
         }
-        FirstInteger::Missing => {
+        Ok(None) => {
             *kind = 1;
             0
         }
-        FirstInteger::Refused(n) => n,
+        Err(error) => error.number(),
     }
 }
 
@@ -89,13 +90,12 @@ pub extern "C" fn variant_write_small_values(
 ) -> u8
     ensures { TellsSmall result length out.old out.new written.old written.new }
 {
-    let s = write_small_values(length, out);
-    match s {
-        SmallValues::Written(n) => {
+    match write_small_values(length, out) {
+        Ok(n) => {
             *written = n;
             0
         }
-        SmallValues::BadLength => 26,
-        SmallValues::NoRoom => 14,
+        Err(SmallError::BadLength) => 26,
+        Err(SmallError::NoRoom) => 14,
     }
 }

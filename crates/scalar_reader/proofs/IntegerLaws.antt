@@ -1,17 +1,14 @@
 -- Integers: two's complement read back, and what bytes are by their first one.
-use mathlib.Core.Path.{◌≡◌, refl, sym, ◌∙◌, ap, subst}
+use mathlib.Core.Path.{◌≡◌, refl, sym, ap}
 use mathlib.Core.Bool.{Bool, true, false, cond, ◌&&◌}
 use mathlib.Core.List.{List, [], ◌∷◌, append-nil}
 use Prim.Native.Nat.{ℕ, zero, suc, ◌+◌, ◌-◌, ◌/◌, ◌%◌, ◌^◌, ◌≤◌, ◌<◌}
 use native.Mathlib.Omega.{arith}
 use lib.Dec.{eqb, leb, ltb}
-use lib.IntN.{ℤ, pos, negsuc, ◌-ℤ◌}
+use lib.IntN.{ℤ, pos, negsuc}
 use lib.ListN.{length, drop, get_or}
 use lib.Signed.{mag}
 use borrow.Author.Tests.{ltb-true, eqb-true, eqb-false, eq-eqb, ne_eqb, le-leb, lt-ltb, le-ltb}
-use mir.Syntax.{w64}
-use mir.Val.{SFits, of_z, to_z}
-use mir.ValLaws.{to_z-of_z, to_z_pos}
 use Rattle.encoding.specs.Packed.{le, number}
 use Rattle.encoding.specs.Signed.{twos}
 use Rattle.encoding.proofs.PackedLaws.{number_le}
@@ -23,33 +20,10 @@ use Rattle.measure.proofs.ValueLaws.{value_measured, scalar_value}
 use Rattle.grammar.specs.Scalars.{signed_in}
 use Rattle.grammar.specs.Grammar.{Plain}
 use Rattle.grammar.proofs.ShapeLaws.{known_code, first_low}
-use Rattle.scalar_reader.specs.declared.integers.Integer.{Integer}
-use Rattle.scalar_reader.specs.declared.integers.Integer.TheVariants.{Number, Other}
+use Rattle.std.specs.Prelude.{Option, Some, None}
 use Rattle.scalar_reader.specs.Integers.{integer_stored, integer_of, integer_in}
 
 -- ---- two's complement
-
--- what the machine makes of -1 - k
-pub record Flipped (k : ℕ) : Type 0 where
-  pub fit : SFits w64 (negsuc 0 -ℤ to_z w64 k)
-  pub is : to_z w64 (of_z w64 (negsuc 0 -ℤ to_z w64 k)) ≡ negsuc k
-
-pub flipped : (k : ℕ) → k < 2 ^ 63 → Flipped k
-flipped k h =
-    let e : negsuc 0 -ℤ to_z w64 k ≡ negsuc k = ap (λ z. negsuc 0 -ℤ z) (to_z_pos w64 k h) ∙ minus k in
-    let f : SFits w64 (negsuc k) = record { sfits = h } in
-    record { fit = subst (SFits w64) (sym e) f; is = ap (λ z. to_z w64 (of_z w64 z)) e ∙ to_z-of_z w64 (negsuc k) f }
-  where
-    minus : (n : ℕ) → negsuc 0 -ℤ pos n ≡ negsuc n
-    minus zero = refl
-    minus (suc n) = ap negsuc (omega arith)
-
--- of a number of w bytes, `ones` being the largest
-pub signed_in_lem : {z : ℤ} (w ones n : ℕ) (bytes : List ℕ) → suc ones ≡ 256 ^ w → n ≡ number bytes → z ≡ cond (ltb (n + n) (suc ones)) (pos n) (negsuc (ones - n)) → z ≡ signed_in w bytes
-unfolding signed_in
-signed_in_lem w ones n bytes e f g =
-    let d : 256 ^ w - suc n ≡ ones - n = omega arith in
-    rw (← f, d, ← e) g
 
 -- all that w bytes hold
 signed_stored : (w : ℕ) (z : ℤ) → suc (mag z + mag z) < 256 ^ w → signed_in w (le w (twos w z)) ≡ z
@@ -81,32 +55,38 @@ exact x n h = go (eqb n x) refl
     go true p = rw (eqb-true n x p, le-leb x x (omega arith), eq-eqb x x refl) (lt-ltb 0 x h)
     go false p = other (eqb-false n x p) (leb x n) refl
 
--- where the first byte b tells x
-pub integer_by_lem : (b x : ℕ) (v : List ℕ) → ((bytes : List ℕ) → value_length (b ∷ bytes) ≡ x) → 0 < x → ltb (b % 4) 2 ≡ true → 0 < length v → get_or v 0 0 ≡ b
-    → cond (eqb (length v) x) (integer_stored (type_of_byte b) (drop 1 v)) Other ≡ integer_in v
+-- where the first byte b tells w bytes behind it
+integer_by : (b w : ℕ) (p : List ℕ) → value_length (b ∷ p) ≡ suc w → ltb (b % 4) 2 ≡ true → integer_in (b ∷ p) ≡ cond (eqb (suc (length p)) (suc w)) (integer_stored (type_of_byte b) p) None
 unfolding integer_in measured
-integer_by_lem b x [] f h k s e = absurd (omega arith)
-integer_by_lem b x (a ∷ bytes) f h k s e = rw (e, k, f bytes, exact x (length (a ∷ bytes)) h)
+integer_by b w p f k = rw (k, f, exact (suc w) (suc (length p)) (omega arith))
 
-pub integer_none : (b : ℕ) (v : List ℕ) → get_or v 0 0 ≡ b → (b ≡ 12 → ⊥) → (b ≡ 16 → ⊥) → (b ≡ 20 → ⊥) → (b ≡ 24 → ⊥) → Other ≡ integer_in v
+-- they are there
+pub integer_there : {v p : List ℕ} {i : Option ℤ} (b w : ℕ) → v ≡ b ∷ p → length p ≡ w → value_length (b ∷ p) ≡ suc w → ltb (b % 4) 2 ≡ true → i ≡ integer_stored (type_of_byte b) p → i ≡ integer_in v
+integer_there {p = p} b w e l f k g = rw (e, integer_by b w p f k, eq-eqb (suc (length p)) (suc w) (omega arith)) g
+
+-- they are not
+pub integer_cut : {v p : List ℕ} (b w : ℕ) → v ≡ b ∷ p → (length p ≡ w → ⊥) → value_length (b ∷ p) ≡ suc w → ltb (b % 4) 2 ≡ true → None ≡ integer_in v
+integer_cut {p = p} b w e l f k = rw (e, integer_by b w p f k, ne_eqb (suc (length p)) (suc w) (λ d. l (omega arith)))
+
+pub integer_none : (b : ℕ) (v : List ℕ) → get_or v 0 0 ≡ b → (b ≡ 12 → ⊥) → (b ≡ 16 → ⊥) → (b ≡ 20 → ⊥) → (b ≡ 24 → ⊥) → None ≡ integer_in v
 unfolding integer_in
 integer_none b v e h3 h4 h5 h6 = rw e (go (ltb (b % 4) 2) refl)
   where
-    stored : (t : Bool) → eqb (b % 4) 1 ≡ t → b % 4 < 2 → Other ≡ integer_stored (cond t short (primitive (b / 4))) (drop 1 v)
+    stored : (t : Bool) → eqb (b % 4) 1 ≡ t → b % 4 < 2 → None ≡ integer_stored (cond t short (primitive (b / 4))) (drop 1 v)
     stored true p k = refl
     stored false p k =
         let z = eqb-false (b % 4) 1 p in
         rw (ne_eqb (b / 4) 3 (λ d. h3 (omega arith)), ne_eqb (b / 4) 4 (λ d. h4 (omega arith)), ne_eqb (b / 4) 5 (λ d. h5 (omega arith)), ne_eqb (b / 4) 6 (λ d. h6 (omega arith)))
 
-    whole : (t : Bool) (i : Integer) → Other ≡ i → Other ≡ cond t i Other
+    whole : (t : Bool) (i : Option ℤ) → None ≡ i → None ≡ cond t i None
     whole true i p = p
     whole false i p = refl
 
-    go : (t : Bool) → ltb (b % 4) 2 ≡ t → Other ≡ cond (t && (eqb (measured v) (length v) && ltb 0 (length v))) (integer_stored (type_of_byte b) (drop 1 v)) Other
+    go : (t : Bool) → ltb (b % 4) 2 ≡ t → None ≡ cond (t && (eqb (measured v) (length v) && ltb 0 (length v))) (integer_stored (type_of_byte b) (drop 1 v)) None
     go true p = whole (eqb (measured v) (length v) && ltb 0 (length v)) _ (stored (eqb (b % 4) 1) refl (ltb-true (b % 4) 2 p))
     go false p = refl
 
-pub integer_empty : (v : List ℕ) → length v ≡ 0 → Other ≡ integer_in v
+pub integer_empty : (v : List ℕ) → length v ≡ 0 → None ≡ integer_in v
 unfolding integer_in measured value_length scalar_length
 integer_empty [] e = refl
 integer_empty (b ∷ v) e = absurd (omega arith)
@@ -114,7 +94,7 @@ integer_empty (b ∷ v) e = absurd (omega arith)
 -- ---- for the crates above
 
 -- a list or an object is no integer
-pub integer_other : (v : List ℕ) → 2 ≤ get_or v 0 0 % 4 → integer_in v ≡ Other
+pub integer_other : (v : List ℕ) → 2 ≤ get_or v 0 0 % 4 → integer_in v ≡ None
 unfolding integer_in
 integer_other v h = rw (le-ltb (get_or v 0 0 % 4) 2 h)
 
@@ -128,17 +108,17 @@ integer_scalar s h =
     rw (lt-ltb (b % 4) 2 (first_low s.stored_type n), m, eq-eqb (suc n) (suc n) refl, lt-ltb 0 (suc n) (omega arith), type_read s.stored_type n)
 
 -- what the writer stores for an integer is read back; a date is none
-pub int8_back : (z : ℤ) → mag z < 2 ^ 7 → integer_of (stored_variant (Int8 z)) ≡ Number z
-int8_back z h = ap Number (signed_stored 1 z (omega arith))
+pub int8_back : (z : ℤ) → mag z < 2 ^ 7 → integer_of (stored_variant (Int8 z)) ≡ Some z
+int8_back z h = ap Some (signed_stored 1 z (omega arith))
 
-pub int16_back : (z : ℤ) → mag z < 2 ^ 15 → integer_of (stored_variant (Int16 z)) ≡ Number z
-int16_back z h = ap Number (signed_stored 2 z (omega arith))
+pub int16_back : (z : ℤ) → mag z < 2 ^ 15 → integer_of (stored_variant (Int16 z)) ≡ Some z
+int16_back z h = ap Some (signed_stored 2 z (omega arith))
 
-pub int32_back : (z : ℤ) → mag z < 2 ^ 31 → integer_of (stored_variant (Int32 z)) ≡ Number z
-int32_back z h = ap Number (signed_stored 4 z (omega arith))
+pub int32_back : (z : ℤ) → mag z < 2 ^ 31 → integer_of (stored_variant (Int32 z)) ≡ Some z
+int32_back z h = ap Some (signed_stored 4 z (omega arith))
 
-pub int64_back : (z : ℤ) → mag z < 2 ^ 63 → integer_of (stored_variant (Int64 z)) ≡ Number z
-int64_back z h = ap Number (signed_stored 8 z (omega arith))
+pub int64_back : (z : ℤ) → mag z < 2 ^ 63 → integer_of (stored_variant (Int64 z)) ≡ Some z
+int64_back z h = ap Some (signed_stored 8 z (omega arith))
 
-pub date_other : (z : ℤ) → integer_of (stored_variant (Date z)) ≡ Other
+pub date_other : (z : ℤ) → integer_of (stored_variant (Date z)) ≡ None
 date_other z = refl

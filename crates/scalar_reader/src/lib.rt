@@ -3,8 +3,7 @@
 #![tactic(auto)]
 
 mod integers;
-mod numbers;
 mod ranges;
 
-pub use integers::{Integer, integer_of};
+pub use integers::integer_of;
 pub use ranges::is_scalar;

@@ -2,32 +2,43 @@
 use mathlib.Core.Path.{◌≡◌, refl, sym, ◌∙◌, ap}
 use mathlib.Core.Bool.{Bool, true, false, not, ◌&&◌, ◌||◌, true≢false}
 use mathlib.Core.List.{List, [], ◌∷◌, ◌++◌, map, append-nil}
-use Prim.Native.Nat.{ℕ, zero, suc, ◌+◌, ◌-◌, ◌/◌, ◌%◌, ◌^◌, ◌≤◌, ◌<◌}
+use Prim.Native.Nat.{ℕ, zero, suc, ◌+◌, ◌-◌, ◌/◌, ◌%◌, ◌^◌, ◌≤◌, ◌<◌, ◌*◌}
 use native.Mathlib.Omega.{arith}
 use lib.Dec.{eqb, leb, ltb}
 use lib.ListN.{length, take, drop, get_or, length-append}
 use borrow.Author.Tests.{lt-leb, le-leb, lt-ltb, le-ltb, ne_eqb, eq-eqb, eqb-true}
 use Rattle.encoding.specs.Rows.{first, order, in_order}
-use Rattle.encoding.specs.Slices.{Placed, write}
+use Rattle.encoding.specs.Slices.{Placed, placed_number, write}
 use Rattle.encoding.proofs.SliceLaws.{length_write, write_none, write_write}
 use Rattle.value.specs.Scalar.{type_of_byte}
 use Rattle.metadata.specs.Names.{Name, same, ascending}
 use Rattle.metadata.specs.Bytes.{never_used, dictionary_names}
 use Rattle.container.specs.Sort.{name_at}
-use Rattle.measure.specs.Measure.{measured}
+use Rattle.measure.specs.Measure.{measured, some_length}
 use Rattle.lexicon.specs.Dictionary.{each_below}
 use Rattle.lexicon.proofs.DictionaryLaws.{both}
 use Rattle.grammar.specs.Scalars.{outside}
 use Rattle.grammar.specs.Grammar.{starting}
 use Rattle.grammar.specs.Tests.{is_scalar, is_list_head, is_object_head, is_value, pair_rows}
 use Rattle.grammar.specs.Tests.{each_value, starts_of, stored_ids, list_offsets, list_from, object_offsets, object_from}
+use Rattle.grammar.proofs.LengthLaws.{length_same}
 use Rattle.reader.proofs.PairLaws.{pair_valid}
-use Rattle.std.specs.Prelude.{Result}
+use Rattle.reader.proofs.ValueLaws.{value_some}
 use Rattle.batch.specs.declared.AddError.{AddError}
+use Rattle.batch.specs.declared.AddError.TheVariants.{Damaged, NoBatch}
+use Rattle.batch.specs.declared.AddError.TheVariants as add_error
 use Rattle.batch.specs.Layout.{record_of, record_bytes, records_bytes, batch_bytes, count_of}
-use Rattle.batch.specs.Writing.{no_batch, add_rows, Adds, start_rows, Starts}
+use Rattle.batch.specs.Writing.{no_batch, add_rows, added_at, added_number, Adds, start_rows, Starts}
 use Rattle.batch.proofs.WritingLaws.{length_record, no_batch_used, version_one}
-use Rattle.small_values.specs.declared.SmallValues.TheVariants.{Written, BadLength, NoRoom}
+use mir.Syntax.{w32}
+use Rattle.std.specs.Int.{to_be_bytes}
+use Rattle.std.specs.Prelude.{Option, Some, Result, Ok, Err}
+use Rattle.std.specs.Option.{option_eq}
+use Rattle.std.specs.Result.{result_unwrap_or}
+use Rattle.reader.specs.declared.errors.ReadError.{ReadError}
+use Rattle.reader.specs.declared.errors.ReadError.TheVariants.{BadDictionary, BadValue}
+use Rattle.reader.specs.Answers.{number_of}
+use Rattle.small_values.specs.declared.SmallError.TheVariants.{BadLength, NoRoom}
 use Rattle.small_values.specs.Small.{up_from, accepted, keep, values_of, file_of, small_rows, WritesSmall}
 use Rattle.small_values.proofs.DigitLaws.{digits, strings_are}
 
@@ -84,13 +95,17 @@ pub is_accepted : (v : List ℕ) → accepted v ≡ true → bytes_of v ≡ reco
 unfolding keep records_bytes
 is_accepted v e = rw e (append-nil (record_bytes (record_of never_used v)))
 
-pub other_length : (v : List ℕ) {n : ℕ} → n ≡ measured v → (n ≡ length v → ⊥) → bytes_of v ≡ []
+pub other_length : (v : List ℕ) {o : Option ℕ} → o ≡ some_length (measured v) → not (option_eq eqb o (Some (length v))) ≡ true → bytes_of v ≡ []
 unfolding accepted
-other_length v {n} e h = not_accepted v (go (accepted v) refl)
+other_length v {o} e f = not_accepted v (go (accepted v) refl)
   where
     go : (t : Bool) → accepted v ≡ t → accepted v ≡ false
     go false p = p
-    go true p = absurd (h (e ∙ value_measured (dictionary_names never_used) 63 v (pair_valid never_used v refl (eqb-true (first (pair_rows never_used v)) 0 p))))
+    go true p =
+        let i = pair_valid never_used v refl (eqb-true (first (pair_rows never_used v)) 0 p) in
+        let m = eq-eqb (measured v) (length v) (value_measured (dictionary_names never_used) 63 v i) in
+        let q = length_same (measured v) (length v) {o = o} (value_some (dictionary_names never_used) 64 v i) e refl in
+        absurd (true≢false (sym f ∙ ap not (q ∙ m)))
 
 pub refused : (v : List ℕ) {n : ℕ} → n ≡ first (pair_rows never_used v) → (n ≡ 0 → ⊥) → bytes_of v ≡ []
 unfolding accepted
@@ -100,6 +115,12 @@ pub taken : (v : List ℕ) {n : ℕ} → n ≡ first (pair_rows never_used v) �
 unfolding accepted
 taken v e z = is_accepted v (eq-eqb (first (pair_rows never_used v)) 0 (sym e ∙ z))
 
+-- a refusal's number is above 0
+pub refusal : (r : Result (Unit {0}) ReadError) → ((x : Unit {0}) → r ≡ Ok x → ⊥) → number_of r ≡ 0 → ⊥
+refusal (Ok x) h z = h x refl
+refusal (Err BadDictionary) h z = absurd (omega arith)
+refusal (Err BadValue) h z = absurd (omega arith)
+
 -- ---- what `add_value` leaves
 
 pub none_added : (out v : List ℕ) (used : ℕ) → bytes_of v ≡ [] → (used ≡ used + length (bytes_of v)) × (out ≡ write used (bytes_of v) out)
@@ -108,32 +129,42 @@ none_added out v used e = (rw e (omega arith), rw e (write_none out used))
 record_size : (v : List ℕ) → length (record_bytes (record_of never_used v)) ≡ 11 + length v
 record_size v = length_record (record_of never_used v) ∙ (omega arith)
 
-pub one_added : (out after v : List ℕ) (used : ℕ) {r : Result ℕ AddError} → 1 ≤ used → get_or out 0 0 ≡ 1 → length v ≤ 3 → used + length (bytes_of v) ≤ length out
+pub one_added : (out after v : List ℕ) (used : ℕ) {r : Result ℕ AddError} {n : ℕ} → 1 ≤ used → get_or out 0 0 ≡ 1 → length v ≤ 3 → used + length (bytes_of v) ≤ length out
     → bytes_of v ≡ record_bytes (record_of never_used v) → Adds out used (record_of never_used v) r after
-    → (used + (11 + length v) ≡ used + length (bytes_of v)) × (after ≡ write used (bytes_of v) out)
+    → n ≡ result_unwrap_or r used → (n ≡ used + length (bytes_of v)) × (after ≡ write used (bytes_of v) out)
 unfolding first
-one_added out after v used b f n h e a =
+one_added out after v used {r} b f l h e a u =
     let x = record_of never_used v in
     let s = record_size v in
     let room : used + length (record_bytes x) ≤ length out = rw e at h in
     let nb : no_batch (take used out) ≡ false = no_batch_used used out (omega arith) ∙ version_one out (omega arith) f in
     let z : first (add_rows out used x) ≡ 0 =
     rw (le-ltb (length out) used (omega arith), nb, lt-leb (256 ^ 4) (count_of x) (omega arith), le-ltb (length out) (used + length (record_bytes x)) room) in
-    (rw (e, s), rw e (rw z at a.bytes))
-
-pub one_room : (v : List ℕ) (used size : ℕ) → used + length (bytes_of v) ≤ size → bytes_of v ≡ record_bytes (record_of never_used v) → used + (11 + length v) ≤ size
-one_room v used size h e = rw (ap length e ∙ record_size v) at h
+    (u ∙ (rw e (go r (length (record_bytes x)) (rw z at a.number) (rw z at a.used_then))), rw e (rw z at a.bytes))
+  where
+    go : (r : Result ℕ AddError) (size : ℕ) → added_number r ≡ 0 → added_at r ≡ used + size → result_unwrap_or r used ≡ used + size
+    go (Ok n) size k q = q
+    go (Err Damaged) size k q = absurd (omega arith)
+    go (Err NoBatch) size k q = absurd (omega arith)
+    go (Err add_error.NoRoom) size k q = absurd (omega arith)
 
 -- ---- string n
 
-pub string_is : (k n : ℕ) {a b c : ℕ} → 1 ≤ k → k ≤ 3 → a ≡ n / 2 ^ 16 % 256 → b ≡ n / 2 ^ 8 % 256 → c ≡ n % 256
-    → take (3 - (3 - k)) (drop (3 - k) (a ∷ (b ∷ (c ∷ [])))) ≡ digits k n
+-- how many strings there are
+pub count_is : (k : ℕ) → 1 ≤ k → k ≤ 3 → 1 * 2 ^ (8 * k) % 4294967296 ≡ 256 ^ k
+count_is zero h l = absurd (omega arith)
+count_is (suc zero) h l = refl
+count_is (suc (suc zero)) h l = refl
+count_is (suc (suc (suc zero))) h l = refl
+count_is (suc (suc (suc (suc k)))) h l = absurd (omega arith)
+
+pub string_is : (k n : ℕ) → 1 ≤ k → k ≤ 3 → take (4 - (4 - k)) (drop (4 - k) (to_be_bytes w32 n)) ≡ digits k n
 unfolding digits
-string_is zero n h l p q r = absurd (omega arith)
-string_is (suc zero) n h l p q r = let e : n / 1 ≡ n = omega arith in rw (r, e)
-string_is (suc (suc zero)) n h l p q r = let e : n / 1 ≡ n = omega arith in rw (q, r, e)
-string_is (suc (suc (suc zero))) n h l p q r = let e : n / 1 ≡ n = omega arith in rw (p, q, r, e)
-string_is (suc (suc (suc (suc k)))) n h l p q r = absurd (omega arith)
+string_is zero n h l = absurd (omega arith)
+string_is (suc zero) n h l = let e : n / 1 ≡ n = omega arith in rw e
+string_is (suc (suc zero)) n h l = let e : n / 1 ≡ n = omega arith in rw e
+string_is (suc (suc (suc zero))) n h l = let e : n / 1 ≡ n = omega arith in rw e
+string_is (suc (suc (suc (suc k)))) n h l = absurd (omega arith)
 
 length_digits : (k n : ℕ) → length (digits k n) ≡ k
 unfolding digits
@@ -228,7 +259,7 @@ left_end {out = out} {k = k} {used = used} {n = n} s h =
 
 -- ---- the answers
 
-pub small_bad : (n : ℕ) (out : List ℕ) → (leb 1 n && leb n 3) ≡ false → WritesSmall n out BadLength out
+pub small_bad : (n : ℕ) (out : List ℕ) → (leb 1 n && leb n 3) ≡ false → WritesSmall n out (Err BadLength) out
 unfolding first
 small_bad n out e = record { number = rw e; written = refl; bytes = refl }
 
@@ -238,7 +269,7 @@ too_short n h = rw (lt-leb 1 n h)
 pub too_long_lem : (n : ℕ) → 3 < n → (leb 1 n && leb n 3) ≡ false
 too_long_lem n h = rw (le-leb 1 n (omega arith), lt-leb n 3 h)
 
-pub small_no_room : (n s : ℕ) (out : List ℕ) → 1 ≤ n → n ≤ 3 → s ≡ length (file_of n) → length out < s → WritesSmall n out NoRoom out
+pub small_no_room : (n s : ℕ) (out : List ℕ) → 1 ≤ n → n ≤ 3 → s ≡ length (file_of n) → length out < s → WritesSmall n out (Err NoRoom) out
 unfolding first
 small_no_room n s out a b e h =
     record { number = rw (le-leb 1 n a, le-leb n 3 b, lt-ltb (length out) (length (file_of n)) (omega arith)); written = refl; bytes = refl }
@@ -256,6 +287,10 @@ module _ (n : ℕ) (out started : List ℕ) {r : Placed} (h : length (file_of n)
   some : 1 ≤ length out
   some = omega (arith, file_length n)
 
+  -- so that it is not refused
+  pub started_good : placed_number r ≡ 0
+  started_good = s.number ∙ start_clear out some
+
   pub started_version : get_or started 0 0 ≡ 1
   unfolding write
   started_version = rw (started_is out started some s)
@@ -270,7 +305,7 @@ module _ (n : ℕ) (out started : List ℕ) {r : Placed} (h : length (file_of n)
       e ∙ (rw (started_is out started some s) (write_write out (1 ∷ []) rs 0 (omega (arith, file_length n))))
 
 pub small_written_lem : (n s : ℕ) (out after : List ℕ) → 1 ≤ n → n ≤ 3 → s ≡ length (file_of n) → s ≤ length out → after ≡ write 0 (file_of n) out
-    → WritesSmall n out (Written s) after
+    → WritesSmall n out (Ok s) after
 unfolding first
 small_written_lem n s out after a b e h w =
     record { number = rw (le-leb 1 n a, le-leb n 3 b, le-ltb (length out) (length (file_of n)) (omega arith)); written = e; bytes = w }

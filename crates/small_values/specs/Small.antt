@@ -1,12 +1,12 @@
 -- document 02, A13: "For length 1, 2 or 3, and dictionary `01 00 00`, write every value that the reader accepts, each once, ascending by bytes."
-use Rattle.std.specs.Prelude.{◌≡◌, Bool, cond, not, ◌&&◌, List, [], ◌∷◌, ◌++◌, map, ℕ, zero, suc, eqb, leb, ltb, length}
+use Rattle.std.specs.Prelude.{◌≡◌, Bool, cond, not, ◌&&◌, List, [], ◌∷◌, ◌++◌, map, ℕ, zero, suc, eqb, leb, ltb, Result, Ok, Err, length}
 use Rattle.encoding.specs.Rows.{Row, row, first}
 use Rattle.encoding.specs.Slices.{write}
 use Rattle.metadata.specs.Bytes.{never_used}
 use Rattle.batch.specs.Layout.{batch_bytes, record_of}
 use Rattle.grammar.specs.Tests.{pair_rows}
-use Rattle.small_values.specs.declared.SmallValues.{SmallValues}
-use Rattle.small_values.specs.declared.SmallValues.TheVariants.{Written, BadLength, NoRoom}
+use Rattle.small_values.specs.declared.SmallError.{SmallError}
+use Rattle.small_values.specs.declared.SmallError.TheVariants.{BadLength, NoRoom}
 
 -- ---- all byte strings of a length, ascending
 
@@ -48,18 +48,17 @@ abbrev pub small_rows : ℕ → List ℕ → List Row
 small_rows n out = row 26 (not (leb 1 n && leb n 3)) ∷ row 14 (ltb (length out) (length (file_of n))) ∷ []
 
 -- an answer's number in the table, and how many bytes it says are written
-abbrev pub small_number : SmallValues → ℕ
-small_number (Written n) = 0
-small_number BadLength = 26
-small_number NoRoom = 14
+abbrev pub small_number : Result ℕ SmallError → ℕ
+small_number (Ok n) = 0
+small_number (Err BadLength) = 26
+small_number (Err NoRoom) = 14
 
-abbrev pub small_written : SmallValues → ℕ
-small_written (Written n) = n
-small_written BadLength = 0
-small_written NoRoom = 0
+abbrev pub small_written : Result ℕ SmallError → ℕ
+small_written (Ok n) = n
+small_written (Err e) = 0
 
 -- the file stands at the front of the output, and of that nothing else is written; a refused call writes nothing
-pub record WritesSmall (n : ℕ) (out : List ℕ) (r : SmallValues) (after : List ℕ) : Type 0 where
+pub record WritesSmall (n : ℕ) (out : List ℕ) (r : Result ℕ SmallError) (after : List ℕ) : Type 0 where
   pub number : small_number r ≡ first (small_rows n out)
   pub written : small_written r ≡ cond (eqb (small_number r) 0) (length (file_of n)) 0
   pub bytes : after ≡ cond (eqb (small_number r) 0) (write 0 (file_of n) out) out

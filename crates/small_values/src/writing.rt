@@ -5,28 +5,25 @@ ghost use Rattle.metadata.specs.Bytes.{never_used};
 ghost use Rattle.batch.specs.Layout.{record_of, records_bytes};
 ghost use Rattle.small_values.specs.Small.{WritesSmall, file_of, keep, values_of};
 
-use crate::SmallValues;
+use crate::SmallError;
 use batch::{add, start};
 use measure::value_length;
 use reader::read_pair;
 
 // The values of 1, 2 or 3 bytes that the reader accepts over the dictionary 01 00 00, as a batch file at the start of `out`.
-pub fn write_small_values(length: usize, out: &mut [u8]) -> SmallValues
+pub fn write_small_values(length: usize, out: &mut [u8]) -> Result<usize, SmallError>
     ensures { WritesSmall length out.old result out.new }
 {
-    if length < 1 {
-        return SmallValues::BadLength;
-    }
-    if 3 < length {
-        return SmallValues::BadLength;
+    if length < 1 || 3 < length {
+        return Err(SmallError::BadLength);
     }
     let size = file_size(length);
     if out.len() < size {
-        return SmallValues::NoRoom;
+        return Err(SmallError::NoRoom);
     }
-    start(out);
+    start(out)?;
     write_records(length, out);
-    SmallValues::Written(size)
+    Ok(size)
 }
 
 // Known before a byte is written: 4 values, 384 and 83,845.
@@ -41,18 +38,6 @@ fn file_size(length: usize) -> usize
     }
 }
 
-// How many byte strings there are.
-fn string_count(length: usize) -> usize
-    requires { (1 ≤ length) × (length ≤ 3) }
-    ensures { result ≡ 256 ^ length }
-{
-    match length {
-        1 => 256,
-        2 => 65536,
-        _ => 16777216,
-    }
-}
-
 // Behind the version byte: string n is the lowest bytes of n, highest first.
 fn write_records(length: usize, out: &mut [u8])
     requires in_bounds { (1 ≤ length) × (length ≤ 3) }
@@ -60,21 +45,19 @@ fn write_records(length: usize, out: &mut [u8])
     requires length_in_bounds { length_of (file_of length) ≤ length_of out.old }
     ensures { out.new ≡ write 1 (records_bytes (map (record_of never_used) (values_of length))) out.old }
 {
-    let count = string_count(length);
-    let from = 3 - length;
     let mut used = 1;
-    let mut n = 0;
-    while n < count {
-        let string = [low_byte(n >> 16), low_byte(n >> 8), low_byte(n)];
-        used = add_value(out, used, &string[from..3]);
-        n += 1;
+    for n in 0..string_count(length) {
+        let bytes = n.to_be_bytes();
+        used = add_value(out, used, &bytes[4 - length..]);
     }
 }
 
-fn low_byte(n: usize) -> u8
-    ensures { result ≡ n % 256 }
+// How many byte strings there are.
+fn string_count(length: usize) -> u32
+    requires { (1 ≤ length) × (length ≤ 3) }
+    ensures { result ≡ 256 ^ length }
 {
-    (n & 0xff) as u8
+    1 << (8 * length)
 }
 
 // The record of a string that is a value; else nothing. The result is the place behind. Most strings are not as long as they say.
@@ -84,12 +67,11 @@ fn add_value(out: &mut [u8], used: usize, string: &[u8]) -> usize
     ensures { (result ≡ used + length_of (records_bytes (map (record_of never_used) (keep (string.now ∷ [])))))
         × (out.new ≡ write used (records_bytes (map (record_of never_used) (keep (string.now ∷ [])))) out.old) }
 {
-    if value_length(string).unwrap_or(0) != string.len() {
+    if value_length(string) != Some(string.len()) {
         return used;
     }
-    if read_pair(b"\x01\x00\x00", string) != 0 {
+    let Ok(()) = read_pair(b"\x01\x00\x00", string) else {
         return used;
-    }
-    let _ = add(out, used, b"\x01\x00\x00", string);
-    used + (11 + string.len())
+    };
+    add(out, used, b"\x01\x00\x00", string).unwrap_or(used)
 }

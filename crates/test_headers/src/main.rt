@@ -91,13 +91,7 @@ fn no_fields<W: Write>(to: &mut W, label: &[u8]) -> io::Result<()> {
     let mut value = [0u8; 64];
     let mut entries = [0usize; 4];
     let most = largest(&entries, 0);
-    let closed = close_object(
-        frame(0, 0),
-        most,
-        no_names(),
-        &mut value,
-        &mut entries,
-    );
+    let closed = close_object(frame(0, 0), most, no_names(), &mut value, &mut entries);
     line(to, label, closed, 0, &value)
 }
 
@@ -106,13 +100,7 @@ fn object<W: Write>(to: &mut W, label: &[u8], id: usize) -> io::Result<()> {
     let mut entries = [0usize; 4];
     let _ = put_entry(&mut entries, 0, Entry { id, offset: 0 });
     let most = largest(&entries, 1);
-    let closed = close_object(
-        frame(1, 1),
-        most,
-        no_names(),
-        &mut value,
-        &mut entries,
-    );
+    let closed = close_object(frame(1, 1), most, no_names(), &mut value, &mut entries);
     line(to, label, closed, 1, &value)
 }
 
@@ -131,13 +119,7 @@ fn two_fields<W: Write>(to: &mut W, label: &[u8]) -> io::Result<()> {
         text: &text,
         ends: &ends,
     };
-    let closed = close_object(
-        frame(4, 2),
-        most,
-        names,
-        &mut value,
-        &mut entries,
-    );
+    let closed = close_object(frame(4, 2), most, names, &mut value, &mut entries);
     line(to, label, closed, 4, &value)
 }
 

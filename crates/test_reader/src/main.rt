@@ -3,7 +3,7 @@
 #![tactic(auto)]
 
 use encoding::signed::mag;
-use reader::{FieldPlace, FirstInteger, field, find_field, first_integer, read_pair};
+use reader::{IntegerField, Part, ReadError, field, find_field, first_integer, read_pair};
 use std::io;
 use std::io::Write;
 
@@ -40,43 +40,47 @@ fn main(rt: HostRuntime) -> io::Result<()> {
 fn case<W: Write>(to: &mut W, label: &[u8], d: &[u8], v: &[u8]) -> io::Result<()> {
     print::text(to, label)?;
     print::text(to, b": ")?;
-    decimal(to, read_pair(d, v) as u64)?;
+    let refusal = match read_pair(d, v) {
+        Ok(()) => 0,
+        Err(error) => error.number(),
+    };
+    decimal(to, u64::from(refusal))?;
     named(to, v, find_field(d, v, b"a"))?;
     number(to, first_integer(d, v))?;
     print::text(to, b"\n")
 }
 
-fn named<W: Write>(to: &mut W, v: &[u8], place: FieldPlace) -> io::Result<()> {
+fn named<W: Write>(to: &mut W, v: &[u8], place: Result<Option<Part>, ReadError>) -> io::Result<()> {
     match place {
-        FieldPlace::Part { start, end } => {
+        Ok(Some(part)) => {
             print::text(to, b", a from ")?;
-            decimal(to, start as u64)?;
+            decimal(to, part.start as u64)?;
             print::text(to, b" to ")?;
-            decimal(to, end as u64)?;
+            decimal(to, part.end as u64)?;
             print::text(to, b" is ")?;
-            let part = field(v, place);
-            print::hex(to, part, part.len())?;
+            let bytes = field(v, Some(part));
+            print::hex(to, bytes, bytes.len())?;
         }
-        FieldPlace::Missing => {
+        Ok(None) => {
             print::text(to, b", no a")?;
         }
-        FieldPlace::Refused(_) => {}
+        Err(_) => {}
     }
     Ok(())
 }
 
-fn number<W: Write>(to: &mut W, first: FirstInteger) -> io::Result<()> {
+fn number<W: Write>(to: &mut W, first: Result<Option<IntegerField>, ReadError>) -> io::Result<()> {
     match first {
-        FirstInteger::Found { id, number } => {
+        Ok(Some(IntegerField { id, number })) => {
             print::text(to, b", id ")?;
             decimal(to, id as u64)?;
             print::text(to, b" has ")?;
             decimal(to, mag(number) as u64)?;
         }
-        FirstInteger::Missing => {
+        Ok(None) => {
             print::text(to, b", no integer")?;
         }
-        FirstInteger::Refused(_) => {}
+        Err(_) => {}
     }
     Ok(())
 }

@@ -1,9 +1,8 @@
 // What was expected against what came, and the counts.
 use crate::parse::number;
 use semantics::Counts;
-use std::fmt;
-use std::io;
 use std::io::Write;
+use std::{fmt, io};
 
 // The script at hand and its line, and the calls and differences so far.
 #[derive(Clone, Copy, Default)]

@@ -91,7 +91,10 @@ impl Lent<'_> {
 
     // A number of a mark: seven stand for each, in the order of the pokes.
     fn overwrite_mark(&mut self, mark: usize, which: usize, n: usize) {
-        if let Some(x) = self.marks.get_mut(mark.saturating_mul(7).saturating_add(which)) {
+        if let Some(x) = self
+            .marks
+            .get_mut(mark.saturating_mul(7).saturating_add(which))
+        {
             *x = n;
         }
     }

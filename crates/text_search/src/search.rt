@@ -13,8 +13,8 @@ pub fn least_place(v: &[u8], wanted: &[u8]) -> Option<usize>
     (place < v.len()).then_some(place)
 }
 
-// The same of places below `best`, through at most `depth` containers; `best` where there is none: it is a bound that each value found moves down, and
-// as an Option it would be unpacked at each of them.
+// The same of places below `best`, through at most `depth` containers; `best` where there is none: it is a bound that each value found
+// moves down, and an Option would be unpacked at each of them.
 #[cycle(least_element_least_field_least_value)]
 fn least_value(v: &[u8], wanted: &[u8], best: usize, depth: usize) -> usize
     ensures { (result ≡ least_in depth wanted.now best v.now) × (result ≤ best) }
@@ -29,7 +29,7 @@ fn least_value(v: &[u8], wanted: &[u8], best: usize, depth: usize) -> usize
     }
 }
 
-// In a list: what starts behind the least so far is not gone into.
+// In a list: what starts behind the least so far is not gone into. The step is as long as the element, so that no index counts.
 #[cycle(least_element_least_field_least_value)]
 fn least_element(v: &[u8], wanted: &[u8], best: usize, depth: usize) -> usize
     requires { get_or v.now 0 0 % 4 ≡ 3 }

@@ -1,53 +1,23 @@
--- The numbers that are left, beside the values that are left, decide as all of them do.
+-- The offsets that are left, beside the values that are left, decide as all of them do.
 use native.Mathlib.Omega.{arith}
 use mathlib.Core.Path.{sym, ◌∙◌}
-use Rattle.measure.proofs.MeasureLaws.{length_or_zero}
-use Rattle.lexicon.proofs.NameLaws.{numbered}
-use Rattle.header_reader.proofs.TableLaws.{beside_start, beside_value, beside_within, beside_other, beside_none, beside_again, beside_end}
+use Rattle.header_reader.proofs.TableLaws.{beside_start, beside_within, beside_other, beside_none, beside_again, beside_end}
 use Rattle.header_reader.proofs.lists.are_starts.Goals as goal
 
-pub loop-left-init : goal.loop-left-init
-loop-left-init c = let p = c.requires in beside_start _ _ _ _ p.0 p.1
+pub loop-offset-init : goal.loop-offset-init
+loop-offset-init c = rw c.into_iter-offset-iterator.ensures.into_iter_gives (beside_start _ _)
 
-pub returns-then-read_packed-at : goal.returns-then-read_packed-at
-returns-then-read_packed-at c =
-    beside_other c.loop-left.invariant c.loop-left-test.true (numbered c.requires.0 c.read_packed.ensures) c.if-read_packed-at.true
+pub returns-then-offset-at : goal.returns-then-offset-at
+returns-then-offset-at c = beside_other c.loop-offset.invariant c.in-Some.ensures.steps c.if-offset-at.true
 
-pub returns-then-n-eq0 : goal.returns-then-n-eq0
-returns-then-n-eq0 c =
-    beside_none c.loop-left.invariant c.loop-left-test.true (sym (beside_value c.loop-left.invariant (length_or_zero _ _ _ c.value_length.ensures c.unwrap_or-n.ensures)) ∙ c.if-n-eq0.true)
+pub returns-in_default : goal.returns-in_default
+returns-in_default c = beside_none c.loop-offset.invariant c.in-Some.ensures.steps (sym c.in_default.is ∙ c.value_length.ensures)
 
 pub overflow_add-at : goal.overflow_add-at
-overflow_add-at c =
-    omega (arith, beside_within c.loop-left.invariant (length_or_zero _ _ _ c.value_length.ensures c.unwrap_or-n.ensures))
+overflow_add-at c = omega (arith, beside_within c.loop-offset.invariant (sym c.in-Some-value_length.is ∙ c.value_length.ensures))
 
-pub overflow_add-p : goal.overflow_add-p
-overflow_add-p c =
-    omega (arith, c.loop-left.invariant.room, c.requires.0)
-
-pub loop-left-preserved : goal.loop-left-preserved
-loop-left-preserved c =
-    let n = c.if-n-eq0.false in
-    beside_again c.loop-left.invariant c.loop-left-test.true (numbered c.requires.0 c.read_packed.ensures) (beside_value c.loop-left.invariant (length_or_zero _ _ _ c.value_length.ensures c.unwrap_or-n.ensures)) (omega arith) c.if-read_packed-at.false
+pub loop-offset-preserved : goal.loop-offset-preserved
+loop-offset-preserved c = beside_again c.loop-offset.invariant c.in-Some.ensures.steps (sym c.in-Some-value_length.is ∙ c.value_length.ensures) c.if-offset-at.false
 
 pub returns : goal.returns
-returns c =
-    beside_end c.loop-left.invariant c.loop-left-test.false (beside_value c.loop-left.invariant (length_or_zero _ _ _ c.value_length-2.ensures c.unwrap_or.ensures))
-
-pub slice_bounds-value_length-count : goal.slice_bounds-value_length-count
-slice_bounds-value_length-count c = c.loop-left.invariant.high
-
-pub slice_bounds-value_length-start : goal.slice_bounds-value_length-start
-slice_bounds-value_length-start c = omega (arith, c.loop-left.invariant.high)
-
-pub slice_bounds-value_length-end : goal.slice_bounds-value_length-end
-slice_bounds-value_length-end c = omega (arith, c.loop-left.invariant.high)
-
-pub slice_bounds-value_length-count-2 : goal.slice_bounds-value_length-count-2
-slice_bounds-value_length-count-2 c = c.loop-left.invariant.high
-
-pub slice_bounds-value_length-start-2 : goal.slice_bounds-value_length-start-2
-slice_bounds-value_length-start-2 c = omega (arith, c.loop-left.invariant.high)
-
-pub slice_bounds-value_length-end-2 : goal.slice_bounds-value_length-end-2
-slice_bounds-value_length-end-2 c = omega (arith, c.loop-left.invariant.high)
+returns c = beside_end c.loop-offset.invariant c.in-None.ensures.steps.0 c.value_length-2.ensures c.is_none.ensures

@@ -1,48 +1,45 @@
--- The tests one by one; where the first three pass, the header lies within the bytes.
+-- The tests one by one; where the first passes, the header lies within the bytes.
+use borrow.Author.Rules.{rules}
 use native.Mathlib.Omega.{arith}
-use borrow.Author.Tests.{not-true, not-false}
-use mathlib.Core.Path.{◌≡◌, sym, ◌∙◌}
-use Prim.Native.Nat.{◌≤◌}
-use lib.ListN.{length}
-use Rattle.measure.proofs.MeasureLaws.{length_or_zero}
-use Rattle.measure.specs.Measure.{measured}
-use Rattle.grammar.specs.Tests.{object_from}
-use Rattle.header_reader.proofs.HeadLaws.{object_room, object_other, object_unused, object_cut, object_ids, object_offsets_lem, object_good}
+use mathlib.Core.Path.{◌≡◌}
+use Prim.Native.Nat.{◌+◌, ◌*◌, ◌≤◌}
+use lib.ListN.{length, drop}
+use Rattle.metadata.specs.Bytes.{dictionary_names, numbers}
+use Rattle.grammar.specs.Tests.{object_from, object_offsets, stored_ids}
+use Rattle.header_reader.proofs.HeadLaws.{object_other, object_room, object_ids, object_good, object_bad}
 use Rattle.header_reader.proofs.objects.object_head.Goals as goal
-use Rattle.header_reader.proofs.objects.object_head.Goals.{Else-unwrap_or-v}
+use Rattle.header_reader.proofs.objects.object_head.Goals.{After-from-from, else-ids_good-via-then-ids_good+else-are_apart, else-ids_good-via-else-ids_good}
 
-whole : (c : Else-unwrap_or-v) → let v = c.args.v.now in measured v ≡ length v
-whole c = sym (length_or_zero _ _ _ c.value_length.ensures c.unwrap_or.ensures) ∙ c.if-unwrap_or-v.false
+begins : (c : After-from-from) → c.from-from.result ≡ object_from c.args.v.now
+begins c = search rules
 
-room : (c : Else-unwrap_or-v) → let v = c.args.v.now in object_from v ≤ length v
-room c =
-    object_room c.args.v.now (rw c.first_byte-b.ensures.0 at c.if-b-ne2.false) (whole c)
+room : (c : After-from-from) → c.from-from.result ≤ length c.args.v.now
+room c = rw (begins c) (object_room (dictionary_names c.args.d.now) _ c.is_whole.ensures c.if-not-is_whole.false)
 
-pub returns-then-b-ne2 : goal.returns-then-b-ne2
-returns-then-b-ne2 c = object_other _ c.args.v.now c.first_byte-b.ensures.0 c.if-b-ne2.true
+told : (c : After-from-from) → let h = c.of_object-header.result in numbers h.offset_width h.count (drop (h.ids + h.id_width * h.count) h.bytes.now) ≡ object_offsets c.args.v.now
+told c = search rules
 
-pub returns-then-b-gt127 : goal.returns-then-b-gt127
-returns-then-b-gt127 c = object_unused _ c.args.v.now c.first_byte-b.ensures.0 c.if-b-ne2.false c.if-b-gt127.true
+named : (c : After-from-from) → let h = c.of_object-header.result in numbers h.id_width h.count (drop h.ids h.bytes.now) ≡ stored_ids c.args.v.now
+named c = search rules
 
-pub returns-then-unwrap_or-v : goal.returns-then-unwrap_or-v
-returns-then-unwrap_or-v c =
-    object_cut _ c.args.v.now c.first_byte-b.ensures.0 c.if-b-ne2.false (omega arith) (length_or_zero _ _ _ c.value_length.ensures c.unwrap_or.ensures) c.if-unwrap_or-v.true
+pub returns-then-not-is_whole : goal.returns-then-not-is_whole
+returns-then-not-is_whole c = object_other _ _ c.is_whole.ensures c.if-not-is_whole.true
 
-pub returns-then-not-ids_good : goal.returns-then-not-ids_good
-returns-then-not-ids_good c =
-    object_ids _ c.args.v.now c.first_byte-b.ensures.0 c.if-b-ne2.false c.if-b-gt127.false (whole (goal.at.returns-then-not-ids_good c).Else-unwrap_or-v) c.ids_good.ensures (not-true _ c.if-not-ids_good.true-raw)
+pub slice_bounds-are_apart-count : goal.slice_bounds-are_apart-count
+slice_bounds-are_apart-count c = room (goal.at.slice_bounds-are_apart-count c).After-from-from
 
-pub returns-then-not-offsets_good : goal.returns-then-not-offsets_good
-returns-then-not-offsets_good c =
-    object_offsets_lem _ c.args.v.now c.first_byte-b.ensures.0 c.if-b-ne2.false c.if-b-gt127.false (whole (goal.at.returns-then-not-offsets_good c).Else-unwrap_or-v) c.offsets_good.ensures (not-true _ c.if-not-offsets_good.true-raw)
+pub slice_bounds-are_apart-start : goal.slice_bounds-are_apart-start
+slice_bounds-are_apart-start c = omega (arith, room (goal.at.slice_bounds-are_apart-start c).After-from-from)
 
-pub returns : goal.returns
-returns c =
-    object_good _ c.args.v.now c.first_byte-b.ensures.0 c.if-b-ne2.false c.if-b-gt127.false (whole (goal.at.returns c).Else-unwrap_or-v)
-    c.ids_good.ensures (not-false _ c.if-not-ids_good.false-raw) c.offsets_good.ensures (not-false _ c.if-not-offsets_good.false-raw) c.object_from.ensures.0
+pub returns-then-are_apart : goal.returns-then-are_apart
+returns-then-are_apart c =
+    let p = (goal.at.returns-then-are_apart c).After-from-from in
+    object_good _ _ c.is_whole.ensures c.if-not-is_whole.false (named p) c.ids_good.ensures (told p) (begins p) c.are_apart.ensures c.if-ids_good.true c.if-are_apart.true
 
-pub ids_good-requires : goal.ids_good-requires
-ids_good-requires c = omega (arith, room (goal.at.ids_good-requires c).Else-unwrap_or-v)
-
-pub offsets_good-requires : goal.offsets_good-requires
-offsets_good-requires c = room (goal.at.offsets_good-requires c).Else-unwrap_or-v
+pub returns-else-ids_good : goal.returns-else-ids_good
+returns-else-ids_good c =
+    let p = (goal.at.returns-else-ids_good c).After-from-from in
+    elim c.else-ids_good.branch [
+      | else-ids_good-via-then-ids_good+else-are_apart w ↦ object_bad _ _ c.is_whole.ensures c.if-not-is_whole.false (named p) c.ids_good.ensures (told p) (begins p) w.are_apart.ensures w.if-ids_good.true w.if-are_apart.false
+      | else-ids_good-via-else-ids_good w ↦ object_ids _ _ c.is_whole.ensures c.if-not-is_whole.false (named p) c.ids_good.ensures w.if-ids_good.false
+    ]

@@ -1,15 +1,18 @@
 -- The part, where it lies in the bytes.
-use Rattle.reader.proofs.FieldLaws.{no_part, part_turned, part_over, part_there}
+use mathlib.Core.Path.{refl}
+use Rattle.reader.specs.Answers.{part_of}
+use Rattle.reader.proofs.FieldLaws.{part_turned, part_over, part_there}
 use Rattle.reader.proofs.fields.field.Goals as goal
+use Rattle.reader.proofs.fields.field.Goals.{in_default-via-in-Some+then-start-end+else-end-v, in_default-via-in-Some+else-start-end, in_default-via-in_default}
+
+pub returns-in-Some : goal.returns-in-Some
+returns-in-Some c = rw c.in-Some.is (part_there _ c.in-Some.field-0 c.if-start-end.true c.if-end-v.true)
 
 pub returns-in_default : goal.returns-in_default
-returns-in_default c = no_part _ _ c.in_default.not-Part
-
-pub returns-then-end-start : goal.returns-then-end-start
-returns-then-end-start c = part_turned _ c.in-Part.is c.if-end-start.true
-
-pub returns-then-v-end : goal.returns-then-v-end
-returns-then-v-end c = part_over _ c.in-Part.is c.if-end-start.false c.if-v-end.true
-
-pub returns : goal.returns
-returns c = part_there _ c.in-Part.is c.if-end-start.false c.if-v-end.false
+unfolding part_of
+returns-in_default c =
+    elim c.in_default.branch [
+      | in_default-via-in-Some+then-start-end+else-end-v w ↦ rw w.in-Some.is (part_over _ w.in-Some.field-0 w.if-end-v.false)
+      | in_default-via-in-Some+else-start-end w ↦ rw w.in-Some.is (part_turned _ w.in-Some.field-0 w.if-start-end.false)
+      | in_default-via-in_default w ↦ rw w.in_default.is refl
+    ]

@@ -11,22 +11,22 @@ use Rattle.reader.proofs.fields.integer_field.Goals.{In-loop-k}
 
 -- field k is there
 there : (c : In-loop-k) → c.loop-k.k < object_count c.args.v.now
-there c = omega (arith, c.count_of_fields-count.ensures.0)
+there c = omega (arith, c.count_of_fields-k-end.ensures.0)
 
-pub part_at-place-requires : goal.part_at-place-requires
-part_at-place-requires c = c.requires _ (there (goal.at.part_at-place-requires c).In-loop-k)
+pub part_at-requires : goal.part_at-requires
+part_at-requires c = c.requires _ (there (goal.at.part_at-requires c).In-loop-k)
 
 pub loop-k-preserved : goal.loop-k-preserved
 loop-k-preserved c =
-    hunts_again c.loop-k.invariant (there (goal.at.loop-k-preserved c).In-loop-k) c.stored_id-id.ensures.0 c.part_at-place.ensures c.field.ensures c.integer_of.ensures c.in_default.is
+    hunts_again c.loop-k.invariant (there (goal.at.loop-k-preserved c).In-loop-k) c.stored_id-id.ensures.0 c.part_at.ensures c.field.ensures c.integer_of.ensures c.in_default.is
 
-pub returns-in-loop-k : goal.returns-in-loop-k
-returns-in-loop-k c =
-    rw (to_z-of_z w64 c.in-Number.number (record { sfits = omega arith }))
-    (hunts_found c.loop-k.invariant (there (goal.at.returns-in-loop-k c).In-loop-k) c.stored_id-id.ensures.0 c.part_at-place.ensures c.field.ensures c.integer_of.ensures c.in-Number.is)
+pub returns-in-Some : goal.returns-in-Some
+returns-in-Some c =
+    rw (to_z-of_z w64 c.in-Some.number (record { sfits = omega arith }))
+    (hunts_found c.loop-k.invariant (there (goal.at.returns-in-Some c).In-loop-k) c.stored_id-id.ensures.0 c.part_at.ensures c.field.ensures c.integer_of.ensures c.in-Some.is)
 
 pub returns : goal.returns
-returns c = hunts_none c.loop-k.invariant (omega (arith, c.count_of_fields-count.ensures.0))
+returns c = hunts_none c.loop-k.invariant (omega (arith, c.count_of_fields-k-end.ensures.0))
 
 pub loop-k-init : goal.loop-k-init
 loop-k-init c = record { rest = refl }

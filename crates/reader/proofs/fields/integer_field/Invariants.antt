@@ -1,10 +1,6 @@
-use Prim.Native.Nat.{◌-◌}
 use Rattle.reader.specs.Answers.{integer_found}
 use Rattle.reader.proofs.FieldLaws.{Hunts}
 use Rattle.reader.proofs.fields.integer_field.Given as goal
 
 abbrev pub invariant-loop-k : goal.invariant-loop-k
 invariant-loop-k l = Hunts l.v (integer_found l.v) l.k
-
-abbrev pub decreases-loop-k : goal.decreases-loop-k
-decreases-loop-k l = l.count - l.k

@@ -1,4 +1,3 @@
-use Prim.Native.Nat.{◌-◌}
 use Rattle.metadata.specs.Bytes.{dictionary_names}
 use Rattle.reader.specs.Answers.{field_found}
 use Rattle.reader.proofs.FieldLaws.{Seeks}
@@ -6,6 +5,3 @@ use Rattle.reader.proofs.fields.named_field.Given as goal
 
 abbrev pub invariant-loop-k : goal.invariant-loop-k
 invariant-loop-k l = Seeks (dictionary_names l.d) l.name l.v (field_found (dictionary_names l.d) l.name l.v) l.k
-
-abbrev pub decreases-loop-k : goal.decreases-loop-k
-decreases-loop-k l = l.count - l.k

@@ -1,59 +1,75 @@
 -- Each arm by its first byte, which tells the length.
 use native.Mathlib.Omega.{arith}
-use Prim.Native.Nat.{◌≤◌}
-use lib.ListN.{length}
+use mathlib.Core.Path.{◌≡◌, ◌∙◌, ap}
+use Prim.Native.Nat.{◌-◌, ◌^◌}
+use lib.ListN.{length, get_or, length-drop}
+use mir.Syntax.{w32, w64, w128}
+use Rattle.value.specs.Decimal.{beyond, beyond_day}
 use Rattle.value.specs.Scalar.{scalar_length}
 use Rattle.measure.specs.Measure.{value_length}
-use Rattle.scalar_reader.proofs.RangeLaws.{stored_size, string_read, short_read, other_read}
+use Rattle.scalar_reader.proofs.NumberLaws.{read_back, widened}
+use Rattle.scalar_reader.proofs.RangeLaws.{stored_size, last_bytes, string_read, short_read}
 use Rattle.scalar_reader.proofs.ranges.is_outside.Goals as goal
-use Rattle.scalar_reader.proofs.ranges.is_outside.Goals.{In-64}
 
-string : (c : In-64) → 5 ≤ length c.args.v.now
+pub unwrap-requires : goal.unwrap-requires
 unfolding value_length scalar_length
-string c = let h = c.requires in omega (arith, stored_size 64 _ h.0 c.in-64.is h.2)
+unwrap-requires c = c.last_chunk.ensures.variant.1 (omega (arith, stored_size 32 _ (rw c.in-32.is at c.requires.1)))
 
-pub decimal4_outside-requires : goal.decimal4_outside-requires
+pub unwrap-requires-in-36 : goal.unwrap-requires-in-36
 unfolding value_length scalar_length
-decimal4_outside-requires c = let h = c.requires in stored_size 32 _ h.0 c.in-32.is h.2
+unwrap-requires-in-36 c = c.last_chunk-in-36.ensures.variant.1 (omega (arith, stored_size 36 _ (rw c.in-36.is at c.requires.1)))
 
-pub decimal8_outside-requires : goal.decimal8_outside-requires
+pub unwrap-requires-in-40 : goal.unwrap-requires-in-40
 unfolding value_length scalar_length
-decimal8_outside-requires c = let h = c.requires in stored_size 36 _ h.0 c.in-36.is h.2
+unwrap-requires-in-40 c = c.last_chunk-in-40.ensures.variant.1 (omega (arith, stored_size 40 _ (rw c.in-40.is at c.requires.1)))
 
-pub decimal16_outside-requires : goal.decimal16_outside-requires
+pub unwrap-requires-in-68 : goal.unwrap-requires-in-68
 unfolding value_length scalar_length
-decimal16_outside-requires c = let h = c.requires in stored_size 40 _ h.0 c.in-40.is h.2
-
-pub time_outside-requires : goal.time_outside-requires
-unfolding value_length scalar_length
-time_outside-requires c = let h = c.requires in stored_size 68 _ h.0 c.in-68.is h.2
-
-pub returns-then-b-eq1 : goal.returns-then-b-eq1
-returns-then-b-eq1 c =
-    short_read c.args.v.now c.requires.0 c.requires.2 (c.shared_slice_known-2-1.given 0).fits c.if-b-eq1.true c.is_utf8-then-b-eq1.ensures
+unwrap-requires-in-68 c = c.last_chunk-in-68.ensures.variant.1 (omega (arith, stored_size 68 _ (rw c.in-68.is at c.requires.1)))
 
 pub returns-in-32 : goal.returns-in-32
-returns-in-32 c = rw c.in-32.is c.decimal4_outside.ensures
+unfolding value_length scalar_length
+returns-in-32 c =
+    let p = c.args.payload.now in
+    let l : length p ≡ 5 = omega (arith, stored_size 32 p (rw c.in-32.is at c.requires.1)) in
+    let k = rw c.unwrap.ensures at c.last_chunk.ensures.cases in
+    rw c.in-32.is (c.is_beyond.ensures ∙ ap (λ z. beyond (10 ^ 9 - 1) (get_or p 0 0) z) (widened w32 w128 (record { sfits = c.from.type_inv }) c.from.ensures (record { sfits = c.from_le_bytes-number.type_inv }) c.from_le_bytes-number.ensures (k.1.same ∙ last_bytes 4 p l) (simp length-drop (omega arith))))
 
 pub returns-in-36 : goal.returns-in-36
-returns-in-36 c = rw c.in-36.is c.decimal8_outside.ensures
+unfolding value_length scalar_length
+returns-in-36 c =
+    let p = c.args.payload.now in
+    let l : length p ≡ 9 = omega (arith, stored_size 36 p (rw c.in-36.is at c.requires.1)) in
+    let k = rw c.unwrap-in-36.ensures at c.last_chunk-in-36.ensures.cases in
+    rw c.in-36.is (c.is_beyond-in-36.ensures ∙ ap (λ z. beyond (10 ^ 18 - 1) (get_or p 0 0) z) (widened w64 w128 (record { sfits = c.from-in-36.type_inv }) c.from-in-36.ensures (record { sfits = c.from_le_bytes-number-in-36.type_inv }) c.from_le_bytes-number-in-36.ensures (k.1.same ∙ last_bytes 8 p l) (simp length-drop (omega arith))))
 
 pub returns-in-40 : goal.returns-in-40
-returns-in-40 c = rw c.in-40.is c.decimal16_outside.ensures
-
-pub returns-in-64 : goal.returns-in-64
-returns-in-64 c = string_read c.args.v.now c.in-64.is c.is_utf8.ensures
+unfolding value_length scalar_length
+returns-in-40 c =
+    let p = c.args.payload.now in
+    let l : length p ≡ 17 = omega (arith, stored_size 40 p (rw c.in-40.is at c.requires.1)) in
+    let k = rw c.unwrap-in-40.ensures at c.last_chunk-in-40.ensures.cases in
+    rw c.in-40.is (c.is_beyond-in-40.ensures ∙ ap (λ z. beyond (10 ^ 38 - 1) (get_or p 0 0) z) (read_back w128 (record { sfits = c.from_le_bytes-number-in-40.type_inv }) c.from_le_bytes-number-in-40.ensures (k.1.same ∙ last_bytes 16 p l) (simp length-drop (omega arith))))
 
 pub returns-in-68 : goal.returns-in-68
-returns-in-68 c = rw c.in-68.is c.time_outside.ensures
+unfolding value_length scalar_length
+returns-in-68 c =
+    let p = c.args.payload.now in
+    let l : length p ≡ 8 = omega (arith, stored_size 68 p (rw c.in-68.is at c.requires.1)) in
+    let d : length p - 8 ≡ 0 = omega arith in
+    let k = rw (c.unwrap-in-68.ensures, d) at c.last_chunk-in-68.ensures.cases in
+    rw c.in-68.is (c.is_beyond_day.ensures ∙ ap beyond_day (read_back w64 (record { sfits = c.from_le_bytes-micros.type_inv }) c.from_le_bytes-micros.ensures k.1.same l))
 
-pub returns-else-b-eq1 : goal.returns-else-b-eq1
-returns-else-b-eq1 c =
-    let h = c.in_default.in_default-own.rest in
-    other_read c.args.v.now c.requires.1 c.if-b-eq1.false h.0.0.0.0.1 h.0.0.0.1 h.0.0.1 h.0.1 h.1
+pub returns-then-first-eq1 : goal.returns-then-first-eq1
+returns-then-first-eq1 c = short_read c.args.payload.now c.requires.1 c.ranges.first.fits c.if-first-eq1.true c.is_utf8-then-first-eq1.ensures
 
 pub slice_bounds-is_utf8-count : goal.slice_bounds-is_utf8-count
-slice_bounds-is_utf8-count c = string (goal.at.slice_bounds-is_utf8-count c).In-64
+unfolding value_length scalar_length
+slice_bounds-is_utf8-count c = omega (arith, stored_size 64 _ (rw c.in-64.is at c.requires.1))
 
 pub slice_bounds-is_utf8-start : goal.slice_bounds-is_utf8-start
-slice_bounds-is_utf8-start c = string (goal.at.slice_bounds-is_utf8-start c).In-64
+unfolding value_length scalar_length
+slice_bounds-is_utf8-start c = omega (arith, stored_size 64 _ (rw c.in-64.is at c.requires.1))
+
+pub returns-in-64 : goal.returns-in-64
+returns-in-64 c = rw c.in-64.is (string_read c.args.payload.now c.is_utf8.ensures)

@@ -1,19 +1,26 @@
 -- Each test that fails refutes the definition, and all that pass leave the range.
 use native.Mathlib.Omega.{arith}
-use mathlib.Core.Path.{sym, ◌∙◌}
-use Rattle.measure.proofs.MeasureLaws.{length_or_zero}
+use mathlib.Core.Path.{sym, ◌∙◌, ap}
+use lib.ListN.{length}
+use borrow.Author.Tests.{eqb-true, eqb-false, ltb-true}
+use Rattle.grammar.proofs.LengthLaws.{length_same}
 use Rattle.scalar_reader.proofs.RangeLaws.{scalar_empty, scalar_container, scalar_cut, scalar_whole}
 use Rattle.scalar_reader.proofs.ranges.is_scalar.Goals as goal
+use Rattle.scalar_reader.proofs.ranges.is_scalar.Goals.{then-first-lt2, else-first-lt2}
 
-pub returns-then-v-eq0 : goal.returns-then-v-eq0
-returns-then-v-eq0 c = scalar_empty _ c.if-v-eq0.true
+pub returns-in_default : goal.returns-in_default
+returns-in_default c = scalar_empty _ c.in_default.ensures.cases
 
-pub returns-then-v-gt1 : goal.returns-then-v-gt1
-returns-then-v-gt1 c = scalar_container _ c.if-v-gt1.true
+pub returns-then-eq : goal.returns-then-eq
+returns-then-eq c =
+    elim c.if-first-lt2.branch [
+      | then-first-lt2 w ↦ rw c.in-Some.ensures.cases.0 (scalar_whole c.in-Some.first.now c.in-Some.payload.now w.if-first-lt2.true (rw c.in-Some.ensures.cases.0 at (eqb-true _ _ (sym (length_same _ _ (omega (arith, ap length c.in-Some.ensures.cases.0)) w.value_length.ensures w.eq.ensures) ∙ (sym w.value-is ∙ c.if-eq.true)))) c.is_outside.ensures)
+      | else-first-lt2 w ↦ absurd (omega (arith, w.if-first-lt2.false, ltb-true _ _ (sym w.value-is ∙ c.if-eq.true)))
+    ]
 
-pub returns-then-unwrap_or-v : goal.returns-then-unwrap_or-v
-returns-then-unwrap_or-v c = scalar_cut _ (λ e. c.if-unwrap_or-v.true ((length_or_zero _ _ _ c.value_length.ensures c.unwrap_or.ensures) ∙ e))
-
-pub returns : goal.returns
-returns c =
-    scalar_whole _ (omega (arith, c.if-v-gt1.false)) (sym (length_or_zero _ _ _ c.value_length.ensures c.unwrap_or.ensures) ∙ c.if-unwrap_or-v.false) (omega arith) c.is_outside.ensures
+pub returns-else-eq : goal.returns-else-eq
+returns-else-eq c =
+    elim c.if-first-lt2.branch [
+      | then-first-lt2 w ↦ c.if-eq.false ∙ scalar_cut _ (eqb-false _ _ (sym (length_same _ _ (omega (arith, ap length c.in-Some.ensures.cases.0)) w.value_length.ensures w.eq.ensures) ∙ (sym w.value-is ∙ c.if-eq.false)))
+      | else-first-lt2 w ↦ c.if-eq.false ∙ scalar_container _ (rw c.in-Some.ensures.cases.0 w.if-first-lt2.false)
+    ]

@@ -1,5 +1,4 @@
 use mathlib.Core.List.{map}
-use Prim.Native.Nat.{◌-◌}
 use lib.ListN.{length}
 use Rattle.encoding.specs.Slices.{write}
 use Rattle.metadata.specs.Bytes.{never_used}
@@ -10,6 +9,3 @@ use Rattle.small_values.proofs.writing.write_records.Given as goal
 
 abbrev pub invariant-loop-n : goal.invariant-loop-n
 invariant-loop-n l = Left (write 1 (records_bytes (map (record_of never_used) (values_of l.length))) l.initial.out) l.length (length l.initial.out) l.out l.used l.n
-
-abbrev pub decreases-loop-n : goal.decreases-loop-n
-decreases-loop-n l = l.count - l.n

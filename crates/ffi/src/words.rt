@@ -174,6 +174,7 @@ fn container_at(words: &[usize; WORDS], d: usize) -> Container
 }
 
 // What a call sees of the builder that the words mean, and of the table of marks.
+#[inline(always)]
 pub(crate) fn view_of(words: &[usize; WORDS], marks: &[usize; NUMBERS]) -> View
     ensures { result ≡ view_of (builder_of words.now) marks.now }
 {
@@ -282,6 +283,7 @@ fn under(words: &[usize; WORDS], p: usize, q: usize) -> bool
 }
 
 // Are at most 64 open, and are the marks in each at most 16 and in order? Where none is set there is nothing more to see.
+#[inline(always)]
 fn marks_hold(words: &[usize; WORDS], marks: &[usize; NUMBERS], d: usize) -> bool
     ensures { result ≡ (leb d 64 && marks_hold (containers_of words.now) (elements_of words.now) marks.now
         (counts_of words.now) d) }

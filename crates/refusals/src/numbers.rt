@@ -146,9 +146,7 @@ impl Seen<'_> {
     fn misread(&self, s: Search) -> bool
         ensures { result ≡ misread_by self.now.view.now (storage_in self.now) s }
     {
-        !self.names_intact()
-            || self.misplaced(s)
-            || self.late_uncounted()
+        !self.names_intact() || self.misplaced(s) || self.late_uncounted()
     }
 
     // Where row 2 holds: is the data of the innermost list not as many whole values as it counts?

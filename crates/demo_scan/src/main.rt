@@ -5,10 +5,7 @@
 // The file `stdout` was not made by this program but by a model of document 01 written apart from this code.
 #![tactic(auto)]
 
-use builder::{
-    Answer, Called, FinishAnswer, append_bytes, append_value, close, finish, new, new_list,
-    new_object,
-};
+use builder::{Refused, append_bytes, append_value, close, finish, new, new_list, new_object};
 use semantics::Builder;
 use std::io;
 use std::io::Write;
@@ -138,7 +135,7 @@ fn object<W: Write>(
     entries: &mut [usize],
 ) -> io::Result<Builder> {
     let opened = new_object(b, marks, value, text, ends, entries, &mut [], false, b"");
-    after(to, b"object", opened)
+    after(to, b"object", b, opened)
 }
 
 // Plain text, stored as short text up to 63 bytes.
@@ -273,7 +270,7 @@ fn readings<W: Write>(
         true,
         b"readings",
     );
-    after(to, b"readings", opened)
+    after(to, b"readings", b, opened)
 }
 
 // A weight of the last three, in tenths of a kilogram.
@@ -289,7 +286,7 @@ fn reading<W: Write>(
 ) -> io::Result<Builder> {
     let x = Variant::Int16(n);
     let called = append_value(b, marks, value, text, ends, entries, &mut [], false, b"", x);
-    after(to, b"reading", called)
+    after(to, b"reading", b, called)
 }
 
 // The list closed, then the object, whose fields are counted before.
@@ -320,6 +317,7 @@ fn closed<W: Write>(
     after(
         to,
         b"close",
+        b,
         close(b, marks, value, text, ends, entries, &[]),
     )
 }
@@ -336,7 +334,7 @@ fn field<W: Write>(
     x: Variant,
 ) -> io::Result<Builder> {
     let called = append_value(b, marks, value, text, ends, entries, &mut [], true, name, x);
-    after(to, name, called)
+    after(to, name, b, called)
 }
 
 fn text_field<W: Write>(
@@ -364,17 +362,22 @@ fn text_field<W: Write>(
         kind,
         bytes,
     );
-    after(to, name, called)
+    after(to, name, b, called)
 }
 
-// The call's line, and the builder after it.
-fn after<W: Write>(to: &mut W, what: &[u8], called: Called) -> io::Result<Builder> {
-    let answer = called.answer;
-    match answer {
-        Answer::Done => line(to, what, 0)?,
-        Answer::Refused(number) => line(to, what, number as usize)?,
-    }
-    Ok(called.builder)
+// The line of a call that was made on b, and the builder after it.
+fn after<W: Write>(
+    to: &mut W,
+    what: &[u8],
+    b: Builder,
+    called: Result<Builder, Refused>,
+) -> io::Result<Builder> {
+    let (number, then) = match called {
+        Ok(then) => (0, then),
+        Err(e) => (e.number, b),
+    };
+    line(to, what, number as usize)?;
+    Ok(then)
 }
 
 fn line<W: Write>(to: &mut W, what: &[u8], number: usize) -> io::Result<()> {
@@ -395,19 +398,16 @@ fn finished<W: Write>(
     entries: &[usize],
 ) -> io::Result<()> {
     let mut out = [0u8; 63];
-    let done = finish(b, marks, value, text, ends, entries, &[], &mut out);
-    let answer = done.answer;
-    match answer {
-        FinishAnswer::Written(n) => {
+    match finish(b, marks, value, text, ends, entries, &[], &mut out) {
+        Ok(f) => {
             line(to, b"finish", 0)?;
             line(to, b"fields", fields)?;
             print::text(to, b"value ")?;
-            print::hex(to, value, done.builder.counts.value)?;
+            print::hex(to, value, f.builder.counts.value)?;
             print::text(to, b"\ndictionary ")?;
-            print::hex(to, &out, n)?;
-            print::text(to, b"\n")?;
+            print::hex(to, &out, f.written)?;
+            print::text(to, b"\n")
         }
-        FinishAnswer::Refused(number) => line(to, b"finish", number as usize)?,
+        Err(e) => line(to, b"finish", e.number as usize),
     }
-    Ok(())
 }

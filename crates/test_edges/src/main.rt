@@ -1,14 +1,15 @@
 // Document 01's named edges, one line a case: its name; the answers of its first calls and of its last, each 0 or the number of the
 // first call refused; names and value bytes then used; the first 16 of these bytes; where the last calls finish, the
-// dictionary. Calls are written as bytes: see `call_of`. Other edges are data of the program `test_replay`.
+// dictionary. Calls are written as bytes: see `next`. Other edges are data of the program `test_replay`.
 // The file `stdout` was not made by this program but by a model of document 01 written apart from this code.
 #![tactic(auto)]
 
 ghost use Rattle.std.specs.Prelude.{◌≤◌};
 
-use builder::new;
-use builder_mut::{Call, LendCalled, lend};
+use builder::{Refused, new};
+use builder_mut::{append_bytes, append_value, close, finish, new_list};
 use metadata::num_field_names;
+use semantics::Builder;
 use std::io;
 use std::io::Write;
 use value::variant::{Variant, VariantBytes};
@@ -53,21 +54,25 @@ fn case<W: Write>(
     let mut value = [0u8; 1024];
     let mut entries = [0usize; 512];
     let mut out = [0u8; 3];
-    let fresh = LendCalled {
-        number: 0,
-        written: 0,
-        builder: new(false),
+    let mut b = new(false);
+    let first = run(&mut b, marks, &mut value, &mut entries, &mut out, before);
+    let then = match first {
+        Ok(_) => run(&mut b, marks, &mut value, &mut entries, &mut out, last),
+        Err(e) => Err(e),
     };
-    let r = run(fresh, marks, &mut value, &mut entries, &mut out, before);
-    let s = run(r, marks, &mut value, &mut entries, &mut out, last);
-    line(to, label, r.number, s, &value, &out)
+    line(to, label, number_of(first), then, b, &value, &out)
+}
+
+fn number_of(answer: Result<usize, Refused>) -> u8 {
+    answer.err().map_or(0, |e| e.number)
 }
 
 fn line<W: Write>(
     to: &mut W,
     label: &[u8],
     before: u8,
-    s: LendCalled,
+    last: Result<usize, Refused>,
+    b: Builder,
     value: &[u8],
     out: &[u8],
 ) -> io::Result<()> {
@@ -75,94 +80,72 @@ fn line<W: Write>(
     print::text(to, b": ")?;
     print::decimal(to, before as u64)?;
     print::text(to, b" ")?;
-    print::decimal(to, s.number as u64)?;
+    print::decimal(to, number_of(last) as u64)?;
     print::text(to, b", ")?;
-    let m = s.builder.counts.dictionary;
-    print::decimal(to, num_field_names(m) as u64)?;
+    print::decimal(to, num_field_names(b.counts.dictionary) as u64)?;
     print::text(to, b" names, ")?;
-    let used = s.builder.counts.value;
+    let used = b.counts.value;
     print::decimal(to, used as u64)?;
     print::text(to, b" bytes")?;
     if 0 < used {
         print::text(to, b", ")?;
         print::front(to, value, used)?;
     }
-    if 0 < s.written {
+    let written = last.unwrap_or(0);
+    if 0 < written {
         print::text(to, b", dictionary ")?;
-        print::hex(to, out, s.written)?;
+        print::hex(to, out, written)?;
     }
     print::text(to, b"\n")
 }
 
-// The calls in order, up to the first one refused.
+// The calls in order, up to the first one refused: the bytes that the last one wrote as its dictionary.
 fn run(
-    start: LendCalled,
+    b: &mut Builder,
     marks: &mut [usize; 7168],
     value: &mut [u8],
     entries: &mut [usize],
     out: &mut [u8],
     calls: &[u8],
-) -> LendCalled {
-    let mut r = start;
-    let mut i = 0;
-    while i < calls.len() {
-        let c = calls[i];
-        i += 1;
-        r = next(r, marks, value, entries, out, c);
+) -> Result<usize, Refused> {
+    let mut written = 0;
+    for c in calls {
+        written = next(b, marks, value, entries, out, *c)?;
     }
-    r
+    Ok(written)
 }
 
+// A list opened, a null, a close, a finish; any other byte is a plain text.
 fn next(
-    r: LendCalled,
+    b: &mut Builder,
     marks: &mut [usize; 7168],
     value: &mut [u8],
     entries: &mut [usize],
     out: &mut [u8],
     c: u8,
-) -> LendCalled {
-    if r.number != 0 {
-        return r;
-    }
-    let mut text = [0u8; 0];
-    let mut ends = [0usize; 0];
-    let mut undo = [0usize; 0];
-    let bytes = [b'a'; 64];
-    let n = length(c);
-    lend(
-        r.builder,
-        marks,
-        call_of(c),
-        value,
-        &mut text,
-        &mut ends,
-        entries,
-        &mut undo,
-        false,
-        b"",
-        &bytes[0..n],
-        [0; 16],
-        out,
-    )
-}
-
-// A list opened, a null, a close, a finish; any other byte is a plain text.
-fn call_of(c: u8) -> Call {
+) -> Result<usize, Refused> {
+    let text = &mut [0u8; 0];
+    let ends = &mut [0usize; 0];
+    let undo = &mut [0usize; 0];
+    let bytes = &[b'a'; 64];
+    let x = Variant::Null;
+    let k = VariantBytes::Text;
     match c {
-        b'[' => Call::NewList,
-        b'n' => Call::AppendValue(Variant::Null),
-        b']' => Call::Close,
-        b'.' => Call::Finish,
-        _ => Call::AppendBytes(VariantBytes::Text),
+        b'[' => new_list(b, marks, value, text, ends, entries, undo, false, b"")?,
+        b'n' => append_value(b, marks, value, text, ends, entries, undo, false, b"", x)?,
+        b']' => close(b, marks, value, text, ends, entries, undo)?,
+        b'.' => return finish(b, marks, value, text, ends, entries, undo, out),
+        _ => {
+            let t = &bytes[0..length(c)];
+            append_bytes(b, marks, value, text, ends, entries, undo, false, b"", k, t)?
+        }
     }
+    Ok(0)
 }
 
 // How long a text is.
 fn length(c: u8) -> usize
     ensures { result ≤ 64 }
 {
-    if c == b't' {
-        return 63;
-    }
-    64
+    if c == b't' { 63 } else { 64 }
 }

@@ -5,8 +5,7 @@
 #![tactic(auto)]
 
 use builder::{
-    Answer, Called, FinishAnswer, append_bytes, append_value, close, finish, new, new_list,
-    new_object, rollback,
+    Refused, append_bytes, append_value, close, finish, new, new_list, new_object, rollback,
 };
 use semantics::Builder;
 use std::io;
@@ -53,8 +52,9 @@ fn plain_text<W: Write>(to: &mut W, marks: &[usize; 7168]) -> io::Result<()> {
     let mut text = [0xEEu8; 1];
     let mut ends = [99usize; 1];
     let mut entries = [99usize; 2];
+    let fresh = new(true);
     let called = append_bytes(
-        new(true),
+        fresh,
         marks,
         &mut value,
         &mut text,
@@ -66,7 +66,7 @@ fn plain_text<W: Write>(to: &mut W, marks: &[usize; 7168]) -> io::Result<()> {
         VariantBytes::Text,
         b"hi",
     );
-    let b = after(to, called)?;
+    let b = after(to, fresh, called)?;
     line(to, 4, b, marks, &value, &text, &ends, &entries)
 }
 
@@ -344,6 +344,7 @@ fn top<W: Write>(
 ) -> io::Result<Builder> {
     after(
         to,
+        b,
         append_value(b, marks, value, text, ends, entries, &mut [], false, b"", x),
     )
 }
@@ -363,6 +364,7 @@ fn field<W: Write>(
     let x = Variant::Int8(n);
     after(
         to,
+        b,
         append_value(b, marks, value, text, ends, entries, &mut [], true, name, x),
     )
 }
@@ -378,6 +380,7 @@ fn list<W: Write>(
 ) -> io::Result<Builder> {
     after(
         to,
+        b,
         new_list(b, marks, value, text, ends, entries, &mut [], false, b""),
     )
 }
@@ -406,6 +409,7 @@ fn object<W: Write>(
 ) -> io::Result<Builder> {
     after(
         to,
+        b,
         new_object(b, marks, value, text, ends, entries, &mut [], false, b""),
     )
 }
@@ -419,7 +423,7 @@ fn closed<W: Write>(
     ends: &[usize],
     entries: &mut [usize],
 ) -> io::Result<Builder> {
-    after(to, close(b, marks, value, text, ends, entries, &[]))
+    after(to, b, close(b, marks, value, text, ends, entries, &[]))
 }
 
 fn rolled_back<W: Write>(
@@ -431,7 +435,7 @@ fn rolled_back<W: Write>(
     ends: &[usize],
     entries: &mut [usize],
 ) -> io::Result<Builder> {
-    after(to, rollback(b, marks, value, text, ends, entries, &[]))
+    after(to, b, rollback(b, marks, value, text, ends, entries, &[]))
 }
 
 // A list opened under a name and rolled back.
@@ -447,24 +451,30 @@ fn list_rolled_back<W: Write>(
 ) -> io::Result<Builder> {
     let opened = after(
         to,
+        b,
         new_list(b, marks, value, text, ends, entries, &mut [], true, name),
     )?;
     rolled_back(to, opened, marks, value, text, ends, entries)
 }
 
-// The builder after a call.
-fn after<W: Write>(to: &mut W, called: Called) -> io::Result<Builder> {
-    let answer = called.answer;
-    match answer {
-        Answer::Done => {}
-        Answer::Refused(number) => refused(to, number)?,
+// The builder after a call that was made on b.
+fn after<W: Write>(
+    to: &mut W,
+    b: Builder,
+    called: Result<Builder, Refused>,
+) -> io::Result<Builder> {
+    match called {
+        Ok(then) => Ok(then),
+        Err(e) => {
+            refused(to, e)?;
+            Ok(b)
+        }
     }
-    Ok(called.builder)
 }
 
-fn refused<W: Write>(to: &mut W, number: u8) -> io::Result<()> {
+fn refused<W: Write>(to: &mut W, e: Refused) -> io::Result<()> {
     print::text(to, b"refused ")?;
-    print::decimal(to, number as u64)?;
+    print::decimal(to, e.number as u64)?;
     print::text(to, b"\n")
 }
 
@@ -479,18 +489,15 @@ fn line<W: Write>(
     entries: &[usize],
 ) -> io::Result<()> {
     let mut out = [0xEEu8; 7];
-    let finished = finish(b, marks, value, text, ends, entries, &[], &mut out);
-    let answer = finished.answer;
-    match answer {
-        FinishAnswer::Written(n) => {
+    match finish(b, marks, value, text, ends, entries, &[], &mut out) {
+        Ok(f) => {
             print::decimal(to, case as u64)?;
             print::text(to, b" ")?;
-            print::hex(to, value, finished.builder.counts.value)?;
+            print::hex(to, value, f.builder.counts.value)?;
             print::text(to, b" ")?;
-            print::hex(to, &out, n)?;
-            print::text(to, b"\n")?;
+            print::hex(to, &out, f.written)?;
+            print::text(to, b"\n")
         }
-        FinishAnswer::Refused(number) => refused(to, number)?,
+        Err(e) => refused(to, e),
     }
-    Ok(())
 }

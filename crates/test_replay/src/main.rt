@@ -10,13 +10,12 @@ mod input;
 mod parse;
 mod poke;
 
-use builder::{Answer, with_floor};
-use builder_mut::lend;
+use builder::with_floor;
 use compare::{Tally, answered, compared, counted, malformed, passed, started, used};
 use encoding::slices::min;
 use input::{Header, Start, fields, read_count, read_header, read_start};
 use marks::NUMBERS;
-use parse::{call_of, uuid};
+use parse::make_call;
 use poke::{altered, overwrite, overwrite_mark};
 use semantics::Builder;
 use std::io;
@@ -123,20 +122,14 @@ fn script<R: Read, W: Write>(
 }
 
 fn begun<W: Write>(to: &mut W, t: Tally, s: Start) -> io::Result<Replay> {
-    let m = with_floor(s.unique, s.floor);
-    let a = m.answer;
-    let b = m.builder;
+    let (number, builder) = match with_floor(s.unique, s.floor) {
+        Ok(b) => (0, b),
+        Err(e) => (e.refused.number, e.builder),
+    };
     Ok(Replay {
-        builder: b,
-        tally: answered(to, started(t), s.number, number_of(a))?,
+        builder,
+        tally: answered(to, started(t), s.number, number)?,
     })
-}
-
-fn number_of(a: Answer) -> u8 {
-    match a {
-        Answer::Done => 0,
-        Answer::Refused(n) => n,
-    }
 }
 
 fn run<R: Read, W: Write>(
@@ -273,16 +266,18 @@ fn called<W: Write>(
 ) -> io::Result<Replay> {
     let mut space = [0xEEu8; 1024];
     let size = min(h.size, 1024);
-    let call = call_of(h, operand);
-    let id = uuid(operand);
     let out = &mut space[0..size];
-    let d = lend(
-        r.builder, marks, call, value, text, ends, entries, undo, h.named, name, operand, id, out,
+    let mut b = r.builder;
+    let made = make_call(
+        &mut b, marks, value, text, ends, entries, undo, h, name, operand, out,
     );
-    let b = d.builder;
+    let (number, written) = match made {
+        Ok(written) => (0, written),
+        Err(e) => (e.number, 0),
+    };
     let n = b.counts.value;
-    let t = answered(to, counted(r.tally), h.number, d.number)?;
-    let u = finished(to, t, h, value, n, out, d.written, name, operand)?;
+    let t = answered(to, counted(r.tally), h.number, number)?;
+    let u = finished(to, t, h, value, n, out, written, name, operand)?;
     Ok(Replay {
         builder: b,
         tally: u,

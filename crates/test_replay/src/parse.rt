@@ -1,29 +1,95 @@
 // One line's call.
 use crate::input::Header;
-use builder_mut::Call;
+use builder::Refused;
+use builder_mut::{
+    add_field_name, append_bytes, append_civil, append_packed, append_uuid, append_value, close,
+    finish, mark, new_list, new_object, return_to, rollback, with_validate_unique_fields,
+};
 use calendar::civil::Civil;
 use calendar::date::Date;
+use marks::NUMBERS;
+use semantics::Builder;
 use value::decimal::{VariantDecimal4, VariantDecimal8, VariantDecimal16};
 use value::variant::{Variant, VariantBytes};
 
-pub fn call_of(h: Header, operand: &[u8]) -> Call {
-    let c = h.call;
-    let argument = h.argument;
-    match c {
-        1 => Call::AddFieldName,
-        2 => Call::NewList,
-        3 => Call::NewObject,
-        4 => Call::Close,
-        5 => Call::Rollback,
-        6 => Call::WithValidateUniqueFields(argument == 1),
-        7 => Call::AppendBytes(kind(argument)),
-        8 => Call::AppendUuid,
-        9 => Call::AppendValue(scalar(argument, operand)),
-        13 => Call::AppendCivil(civil(argument, operand)),
-        14 => Call::AppendPacked(argument),
-        15 => Call::Mark,
-        16 => Call::ReturnTo(word(operand, 0) as usize),
-        _ => Call::Finish,
+// The call made; of a finish the bytes that it wrote, of any other 0.
+pub fn make_call(
+    b: &mut Builder,
+    marks: &mut [usize; NUMBERS],
+    value: &mut [u8],
+    text: &mut [u8],
+    ends: &mut [usize],
+    entries: &mut [usize],
+    undo: &mut [usize],
+    h: Header,
+    name: &[u8],
+    operand: &[u8],
+    out: &mut [u8],
+) -> Result<usize, Refused> {
+    match h.call {
+        1 => add_field_name(b, marks, value, text, ends, entries, undo, name)?,
+        2 => new_list(b, marks, value, text, ends, entries, undo, h.named, name)?,
+        3 => new_object(b, marks, value, text, ends, entries, undo, h.named, name)?,
+        4 => close(b, marks, value, text, ends, entries, undo)?,
+        5 => rollback(b, marks, value, text, ends, entries, undo)?,
+        6 => {
+            let unique = h.argument == 1;
+            with_validate_unique_fields(b, marks, value, text, ends, entries, undo, unique)?
+        }
+        7..=9 | 13 | 14 => append(b, marks, value, text, ends, entries, undo, h, name, operand)?,
+        15 => mark(b, marks, value, text, ends, entries, undo)?,
+        16 => {
+            let j = word(operand, 0) as usize;
+            return_to(b, marks, value, text, ends, entries, undo, j)?
+        }
+        _ => return finish(b, marks, value, text, ends, entries, undo, out),
+    }
+    Ok(0)
+}
+
+fn append(
+    b: &mut Builder,
+    marks: &[usize; NUMBERS],
+    value: &mut [u8],
+    text: &mut [u8],
+    ends: &mut [usize],
+    entries: &mut [usize],
+    undo: &mut [usize],
+    h: Header,
+    name: &[u8],
+    operand: &[u8],
+) -> Result<(), Refused> {
+    let named = h.named;
+    let a = h.argument;
+    match h.call {
+        7 => append_bytes(
+            b,
+            marks,
+            value,
+            text,
+            ends,
+            entries,
+            undo,
+            named,
+            name,
+            kind(a),
+            operand,
+        ),
+        8 => {
+            let id = uuid(operand);
+            append_uuid(b, marks, value, text, ends, entries, undo, named, name, id)
+        }
+        9 => {
+            let x = scalar(a, operand);
+            append_value(b, marks, value, text, ends, entries, undo, named, name, x)
+        }
+        13 => {
+            let x = civil(a, operand);
+            append_civil(b, marks, value, text, ends, entries, undo, named, name, x)
+        }
+        _ => append_packed(
+            b, marks, value, text, ends, entries, undo, named, name, a, operand,
+        ),
     }
 }
 
@@ -36,7 +102,7 @@ fn kind(code: u8) -> VariantBytes {
     }
 }
 
-pub fn uuid(operand: &[u8]) -> [u8; 16] {
+fn uuid(operand: &[u8]) -> [u8; 16] {
     let mut u = [0u8; 16];
     let mut i = 0;
     while i < 16 {

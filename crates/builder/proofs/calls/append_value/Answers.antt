@@ -1,10 +1,18 @@
 use Rattle.refusals.specs.Decide.{name_of}
-use Rattle.builder.proofs.CallLaws.{does_moved}
+use Rattle.std.proofs.lemmas.Result.{err_from_is_err_and}
 use Rattle.semantics.specs.Record.{append, fixed, storage_of}
+use Rattle.builder.proofs.CallLaws.{does_moved, moved_refused}
 use Rattle.builder.proofs.calls.append_value.Goals as goal
+
+pub returns-in_err-r : goal.returns-in_err-r
+returns-in_err-r c =
+    let a = c.args in
+    let l = storage_of a.value.now a.text.now a.ends.now a.entries.now a.undo.now in
+    let x = err_from_is_err_and c.from_residual.result c.from_residual.ensures.1 in
+    moved_refused a.b a.marks.now l c.view_of-v.ensures (append (name_of a.named a.name.now) (fixed a.x)) (rw c.name_if-given.ensures at c.in_err-r.ensures) x.1 x.2
 
 pub returns : goal.returns
 returns c =
     let a = c.args in
-    let l = (storage_of a.value.now a.text.now a.ends.now a.entries.now a.undo.now) in
-    does_moved a.b a.marks.now l (append (name_of a.named a.name.now) (fixed a.x)) c.append_value_over-r.result tt c.view_of-v.ensures (rw c.name_if-given.ensures at c.append_value_over-r.ensures) c.called.ensures
+    let l = storage_of a.value.now a.text.now a.ends.now a.entries.now a.undo.now in
+    does_moved a.b a.marks.now l c.view_of-v.ensures (append (name_of a.named a.name.now) (fixed a.x)) tt (rw c.name_if-given.ensures at c.in_ok-r.ensures) c.moved.ensures

@@ -1,29 +1,33 @@
+use Rattle.std.proofs.lemmas.Result.{err_from_is_err_and}
 use mathlib.Core.Path.{refl}
 use native.Mathlib.Omega.{arith}
 use Rattle.semantics.specs.Record.{set_mark, storage_of}
-use Rattle.builder.proofs.CallLaws.{does_refused, mark_done, mark_inside}
+use Rattle.builder.proofs.CallLaws.{Inside, does_refused, mark_done, mark_inside}
 use Rattle.builder.proofs.calls.mark.Goals as goal
+use Rattle.builder.proofs.calls.mark.Goals.{In_ok-r}
 
-pub returns-in-Err : goal.returns-in-Err
-returns-in-Err c =
+-- the innermost is one of the 64
+inside : (c : In_ok-r) → Inside c.args.b
+inside c =
     let a = c.args in
     let l = storage_of a.value.now a.text.now a.ends.now a.entries.now a.undo.now in
-    does_refused a.b a.marks.now l c.view_of-v.ensures set_mark c.in-Err.e c.in-Err.ensures.number c.refused.ensures (λ z. refl)
+    mark_inside a.b a.marks.now l c.view_of-v.ensures c.in_ok-r.ensures
 
-pub called_with-requires : goal.called_with-requires
-called_with-requires c =
+pub returns-in_err-r : goal.returns-in_err-r
+returns-in_err-r c =
     let a = c.args in
     let l = storage_of a.value.now a.text.now a.ends.now a.entries.now a.undo.now in
-    omega (arith, mark_inside a.b a.marks.now l c.view_of-v.ensures c.in-Ok.ensures)
+    let x = err_from_is_err_and c.from_residual.result c.from_residual.ensures.1 in
+    does_refused a.b a.marks.now l c.view_of-v.ensures set_mark c.in_err-r.ensures.number (λ z. refl) x.1 x.2
+
+pub with_container-requires : goal.with_container-requires
+with_container-requires c = omega (arith, inside (goal.at.with_container-requires c).In_ok-r)
 
 pub returns : goal.returns
 returns c =
     let a = c.args in
     let l = storage_of a.value.now a.text.now a.ends.now a.entries.now a.undo.now in
-    mark_done a.b a.marks.now l c.view_of-v.ensures c.in-Ok.ensures c.put_mark.ensures c.called_with.ensures
+    mark_done a.b a.marks.now l c.view_of-v.ensures c.in_ok-r.ensures c.put_mark.ensures c.with_container.ensures
 
 pub overflow_sub-at : goal.overflow_sub-at
-overflow_sub-at c =
-    let a = c.args in
-    let l = storage_of a.value.now a.text.now a.ends.now a.entries.now a.undo.now in
-    (mark_inside a.b a.marks.now l c.view_of-v.ensures c.in-Ok.ensures).0
+overflow_sub-at c = (inside (goal.at.overflow_sub-at c).In_ok-r).0

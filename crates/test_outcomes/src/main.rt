@@ -4,9 +4,7 @@
 // The file `stdout` was typed from document 01, not made by this program.
 #![tactic(auto)]
 
-use builder::{
-    append_bytes, append_value, close, finish, new, new_list, new_object, rollback,
-};
+use builder::{append_bytes, append_value, close, finish, new, new_list, new_object, rollback};
 use semantics::{Builder, Refusal};
 use std::io;
 use std::io::Write;

@@ -213,6 +213,7 @@ pub extern "C" fn variant_append_packed(
 }
 
 // What a scalar is stored as, or its own refusal.
+#[inline(always)]
 fn append<S: Stored + Copy>(
     words: &mut [usize; WORDS],
     marks: &[usize; NUMBERS],

@@ -40,8 +40,8 @@ new_fresh u m e = made_fresh u 1 refl m e
 -- calls made by their contracts are made as `semantics` says
 pub chain_made : {s u : State} {cs : List Call} {d : List ℕ} → Chain s cs u d → Made s cs u d
 chain_made no_call = none_made
-chain_made (a_call f h m) = call_made f (λ i. state (h.0 i).builder (h.2 i) (h.1 i)) (chain_made m)
-chain_made (a_finish h m) = finish_made h.4 (λ i. state (h.0 i).builder (h.2 i) (h.1 i)) h.3 h.5 (chain_made m)
+chain_made (a_call f h m) = call_made f (λ i. state (h.3 i) (h.2 i) (h.1 i)) (chain_made m)
+chain_made (a_finish h m) = finish_made h.5 (λ i. state (h.4 i) (h.2 i) (h.1 i)) h.3 h.6 (chain_made m)
 
 chain_finished : {s u : State} {cs : List Call} {d : List ℕ} → FinishedChain s cs u d → FinishedCalls s cs u d
 chain_finished r = record { fresh = r.fresh; made = chain_made r.calls; finished = r.finished }

@@ -5,12 +5,11 @@ ghost use Rattle.std.specs.Prelude.{◌≡◌, false, true};
 ghost use Rattle.semantics.specs.Record.{append as append_of, bytes as bytes_of, civil, fixed, packed, uuid as uuid_of};
 ghost use Rattle.semantics.specs.Record.{close as close_of, finish as finish_of, open_in, register as register_of, return_to, roll_back, set_mark, uniqueness};
 ghost use Rattle.semantics.specs.Record.{storage_of};
-ghost use Rattle.semantics.specs.Step.{step};
 ghost use Rattle.refusals.specs.Decide.{name_of};
-ghost use Rattle.builder.specs.Calls.{Does, Finishes, finish_answer, state};
+ghost use Rattle.builder.specs.Calls.{Does, Finishes, state};
 
-use crate::view::{answer_of, called, called_with, with_elements};
-use crate::{Called, FinishAnswer, FinishCalled};
+use crate::made::{answered, moved, with_container, with_elements};
+use crate::{Finished, Refused};
 use actions::{
     append_bytes_over, append_civil_over, append_packed_over, append_uuid_over, append_value_over,
     close_over, finish_over, mark_over, open_over, register, return_over, rollback_over,
@@ -32,15 +31,15 @@ pub fn add_field_name(
     entries: &[usize],
     undo: &[usize],
     name: &[u8],
-) -> Called
+) -> Result<Builder, Refused>
     ensures { Does result marks.now
         (storage_of value.now text.new ends.new entries.now undo.now)
-        (step (state b marks.now (storage_of value.now text.old ends.old entries.now undo.now))
-        (register_of name.now)) }
+        (state b marks.now (storage_of value.now text.old ends.old entries.now undo.now))
+        (register_of name.now) }
 {
     let v = view_of(&b, marks);
     let r = register(v, value, text, ends, entries, undo, name);
-    called(b, r)
+    moved(b, r)
 }
 
 // A scalar of fixed size.
@@ -55,15 +54,15 @@ pub fn append_value(
     named: bool,
     name: &[u8],
     x: Variant,
-) -> Called
+) -> Result<Builder, Refused>
     ensures { Does result marks.now
         (storage_of value.new text.new ends.new entries.new undo.new)
-        (step (state b marks.now (storage_of value.old text.old ends.old entries.old undo.old))
-        (append_of (name_of named name.now) (fixed x))) }
+        (state b marks.now (storage_of value.old text.old ends.old entries.old undo.old))
+        (append_of (name_of named name.now) (fixed x)) }
 {
     let v = view_of(&b, marks);
     let r = append_value_over(v, value, text, ends, entries, undo, named, name, x);
-    called(b, r)
+    moved(b, r)
 }
 
 // A date, or one of the two timestamps in microseconds, from a date and a time of day.
@@ -78,15 +77,15 @@ pub fn append_civil(
     named: bool,
     name: &[u8],
     x: Civil,
-) -> Called
+) -> Result<Builder, Refused>
     ensures { Does result marks.now
         (storage_of value.new text.new ends.new entries.new undo.new)
-        (step (state b marks.now (storage_of value.old text.old ends.old entries.old undo.old))
-        (append_of (name_of named name.now) (civil x))) }
+        (state b marks.now (storage_of value.old text.old ends.old entries.old undo.old))
+        (append_of (name_of named name.now) (civil x)) }
 {
     let v = view_of(&b, marks);
     let r = append_civil_over(v, value, text, ends, entries, undo, named, name, x);
-    called(b, r)
+    moved(b, r)
 }
 
 // Packed decimal, two digits a byte, and a scale: the smallest of the three decimals that holds the number.
@@ -102,17 +101,17 @@ pub fn append_packed(
     name: &[u8],
     scale: u8,
     bytes: &[u8],
-) -> Called
+) -> Result<Builder, Refused>
     ensures { Does result marks.now
         (storage_of value.new text.new ends.new entries.new undo.new)
-        (step (state b marks.now (storage_of value.old text.old ends.old entries.old undo.old))
-        (append_of (name_of named name.now) (packed scale bytes.now))) }
+        (state b marks.now (storage_of value.old text.old ends.old entries.old undo.old))
+        (append_of (name_of named name.now) (packed scale bytes.now)) }
 {
     let v = view_of(&b, marks);
     let r = append_packed_over(
         v, value, text, ends, entries, undo, named, name, scale, bytes,
     );
-    called(b, r)
+    moved(b, r)
 }
 
 // Binary, String, short text or plain text.
@@ -128,17 +127,17 @@ pub fn append_bytes(
     name: &[u8],
     kind: VariantBytes,
     bytes: &[u8],
-) -> Called
+) -> Result<Builder, Refused>
     ensures { Does result marks.now
         (storage_of value.new text.new ends.new entries.new undo.new)
-        (step (state b marks.now (storage_of value.old text.old ends.old entries.old undo.old))
-        (append_of (name_of named name.now) (bytes_of kind bytes.now))) }
+        (state b marks.now (storage_of value.old text.old ends.old entries.old undo.old))
+        (append_of (name_of named name.now) (bytes_of kind bytes.now)) }
 {
     let v = view_of(&b, marks);
     let r = append_bytes_over(
         v, value, text, ends, entries, undo, named, name, kind, bytes,
     );
-    called(b, r)
+    moved(b, r)
 }
 
 pub fn append_uuid(
@@ -152,15 +151,15 @@ pub fn append_uuid(
     named: bool,
     name: &[u8],
     uuid: [u8; 16],
-) -> Called
+) -> Result<Builder, Refused>
     ensures { Does result marks.now
         (storage_of value.new text.new ends.new entries.new undo.new)
-        (step (state b marks.now (storage_of value.old text.old ends.old entries.old undo.old))
-        (append_of (name_of named name.now) (uuid_of uuid))) }
+        (state b marks.now (storage_of value.old text.old ends.old entries.old undo.old))
+        (append_of (name_of named name.now) (uuid_of uuid)) }
 {
     let v = view_of(&b, marks);
     let r = append_uuid_over(v, value, text, ends, entries, undo, named, name, uuid);
-    called(b, r)
+    moved(b, r)
 }
 
 pub fn new_list(
@@ -173,11 +172,11 @@ pub fn new_list(
     undo: &mut [usize],
     named: bool,
     name: &[u8],
-) -> Called
+) -> Result<Builder, Refused>
     ensures { Does result marks.now
         (storage_of value.now text.new ends.new entries.new undo.new)
-        (step (state b marks.now (storage_of value.now text.old ends.old entries.old undo.old))
-        (open_in (name_of named name.now) false)) }
+        (state b marks.now (storage_of value.now text.old ends.old entries.old undo.old))
+        (open_in (name_of named name.now) false) }
 {
     new_container(
         b, marks, value, text, ends, entries, undo, named, name, false,
@@ -194,11 +193,11 @@ pub fn new_object(
     undo: &mut [usize],
     named: bool,
     name: &[u8],
-) -> Called
+) -> Result<Builder, Refused>
     ensures { Does result marks.now
         (storage_of value.now text.new ends.new entries.new undo.new)
-        (step (state b marks.now (storage_of value.now text.old ends.old entries.old undo.old))
-        (open_in (name_of named name.now) true)) }
+        (state b marks.now (storage_of value.now text.old ends.old entries.old undo.old))
+        (open_in (name_of named name.now) true) }
 {
     new_container(
         b, marks, value, text, ends, entries, undo, named, name, true,
@@ -216,28 +215,21 @@ fn new_container(
     named: bool,
     name: &[u8],
     object: bool,
-) -> Called
+) -> Result<Builder, Refused>
     ensures { Does result marks.now
         (storage_of value.now text.new ends.new entries.new undo.new)
-        (step (state b marks.now (storage_of value.now text.old ends.old entries.old undo.old))
-        (open_in (name_of named name.now) object)) }
+        (state b marks.now (storage_of value.now text.old ends.old entries.old undo.old))
+        (open_in (name_of named name.now) object) }
 {
     let v = view_of(&b, marks);
     let r = open_over(v, value, text, ends, entries, undo, named, name, object);
-    let n = r.number;
-    if n != 0 {
-        return Called {
-            answer: answer_of(n),
-            builder: b,
-        };
+    if r.number != 0 {
+        return Err(Refused { number: r.number });
     }
-    let k = r.container;
-    let c = r.counts;
     let d = b.counts.depth;
-    let ns = b.elements;
-    let outer = with_elements(ns, d, r.elements);
+    let outer = with_elements(b.elements, d, r.elements);
     let all = with_elements(outer, d + 1, 0);
-    called_with(b, all, d, k, c)
+    Ok(with_container(b, d, r.container, all, r.counts))
 }
 
 pub fn close(
@@ -248,15 +240,15 @@ pub fn close(
     ends: &[usize],
     entries: &mut [usize],
     undo: &[usize],
-) -> Called
+) -> Result<Builder, Refused>
     ensures { Does result marks.now
         (storage_of value.new text.now ends.now entries.new undo.now)
-        (step (state b marks.now (storage_of value.old text.now ends.now entries.old undo.now))
-        close_of) }
+        (state b marks.now (storage_of value.old text.now ends.now entries.old undo.now))
+        close_of }
 {
     let v = view_of(&b, marks);
     let r = close_over(v, value, text, ends, entries, undo);
-    called(b, r)
+    moved(b, r)
 }
 
 pub fn rollback(
@@ -267,15 +259,15 @@ pub fn rollback(
     ends: &[usize],
     entries: &mut [usize],
     undo: &[usize],
-) -> Called
+) -> Result<Builder, Refused>
     ensures { Does result marks.now
         (storage_of value.now text.now ends.now entries.new undo.now)
-        (step (state b marks.now (storage_of value.now text.now ends.now entries.old undo.now))
-        roll_back) }
+        (state b marks.now (storage_of value.now text.now ends.now entries.old undo.now))
+        roll_back }
 {
     let v = view_of(&b, marks);
     let r = rollback_over(v, value, text, ends, entries, undo);
-    called(b, r)
+    moved(b, r)
 }
 
 // The uniqueness mark of the innermost object, for later calls.
@@ -288,25 +280,19 @@ pub fn with_validate_unique_fields(
     entries: &[usize],
     undo: &[usize],
     unique: bool,
-) -> Called
+) -> Result<Builder, Refused>
     ensures { Does result marks.now
         (storage_of value.now text.now ends.now entries.now undo.now)
-        (step (state b marks.now (storage_of value.now text.now ends.now entries.now undo.now))
-        (uniqueness unique)) }
+        (state b marks.now (storage_of value.now text.now ends.now entries.now undo.now))
+        (uniqueness unique) }
 {
     let v = view_of(&b, marks);
     let r = unique_over(v, value, text, ends, entries, undo, unique);
-    let n = r.number;
-    if n != 0 {
-        return Called {
-            answer: answer_of(n),
-            builder: b,
-        };
+    if r.number != 0 {
+        return Err(Refused { number: r.number });
     }
-    let k = r.container;
-    let c = b.counts;
-    let ns = b.elements;
-    called_with(b, ns, b.counts.depth - 1, k, c)
+    let at = b.counts.depth - 1;
+    Ok(with_container(b, at, r.container, b.elements, b.counts))
 }
 
 // One mark more in the innermost container: the next number, at most 16.
@@ -318,28 +304,20 @@ pub fn mark(
     ends: &[usize],
     entries: &[usize],
     undo: &[usize],
-) -> Called
+) -> Result<Builder, Refused>
     ensures { Does result marks.new
         (storage_of value.now text.now ends.now entries.now undo.now)
-        (step (state b marks.old (storage_of value.now text.now ends.now entries.now undo.now))
-        set_mark) }
+        (state b marks.old (storage_of value.now text.now ends.now entries.now undo.now))
+        set_mark }
 {
     let v = view_of(&b, marks);
     let r = mark_over(v, value, text, ends, entries, undo);
-    let n = r.number;
-    if n != 0 {
-        return Called {
-            answer: answer_of(n),
-            builder: b,
-        };
+    if r.number != 0 {
+        return Err(Refused { number: r.number });
     }
-    let k = r.container;
-    let m = r.mark;
-    let c = b.counts;
-    let ns = b.elements;
     let at = b.counts.depth - 1;
-    put_mark(marks, at, k.marks, m);
-    called_with(b, ns, at, k, c)
+    put_mark(marks, at, r.container.marks, r.mark);
+    Ok(with_container(b, at, r.container, b.elements, b.counts))
 }
 
 // The return to a mark of the innermost container: that one stays set, later ones are gone.
@@ -352,29 +330,22 @@ pub fn return_to(
     entries: &mut [usize],
     undo: &[usize],
     mark: usize,
-) -> Called
+) -> Result<Builder, Refused>
     ensures { Does result marks.now
         (storage_of value.now text.now ends.now entries.new undo.now)
-        (step (state b marks.now (storage_of value.now text.now ends.now entries.old undo.now))
-        (return_to mark)) }
+        (state b marks.now (storage_of value.now text.now ends.now entries.old undo.now))
+        (return_to mark) }
 {
     let v = view_of(&b, marks);
     let d = b.counts.depth;
     let at = d.saturating_sub(1);
     let p = mark_at(marks, at, mark);
     let r = return_over(v, value, text, ends, entries, undo, mark, p);
-    let n = r.number;
-    if n != 0 {
-        return Called {
-            answer: answer_of(n),
-            builder: b,
-        };
+    if r.number != 0 {
+        return Err(Refused { number: r.number });
     }
-    let k = r.container;
-    let c = r.counts;
-    let ns = b.elements;
-    let after = with_elements(ns, d, r.elements);
-    called_with(b, after, at, k, c)
+    let after = with_elements(b.elements, d, r.elements);
+    Ok(with_container(b, at, r.container, after, r.counts))
 }
 
 // The dictionary at the start of `out`, and the builder finished: `VariantBuilder::finish` of the Rust.
@@ -387,34 +358,23 @@ pub fn finish(
     entries: &[usize],
     undo: &[usize],
     out: &mut [u8],
-) -> FinishCalled
+) -> Result<Finished, Refused>
     ensures { Finishes result marks.now
         (storage_of value.now text.now ends.now entries.now undo.now)
         out.new
-        (step (state b marks.now (storage_of value.now text.now ends.now entries.now undo.now))
-        (finish_of out.old)) }
+        (state b marks.now (storage_of value.now text.now ends.now entries.now undo.now))
+        (finish_of out.old) }
 {
     let v = view_of(&b, marks);
     let r = finish_over(v, value, text, ends, entries, undo, out);
-    let cs = b.containers;
-    let ns = b.elements;
-    let c = r.counts;
-    let next = Builder {
-        containers: cs,
-        elements: ns,
-        counts: c,
+    let containers = b.containers;
+    let elements = b.elements;
+    let counts = r.counts;
+    let builder = Builder {
+        containers,
+        elements,
+        counts,
     };
-    FinishCalled {
-        answer: finish_answer(r.number, r.written),
-        builder: next,
-    }
-}
-
-fn finish_answer(n: u8, written: usize) -> FinishAnswer
-    ensures { result ≡ finish_answer n written }
-{
-    if n == 0 {
-        return FinishAnswer::Written(written);
-    }
-    FinishAnswer::Refused(n)
+    let written = r.written;
+    answered(r.number, Finished { written, builder })
 }

@@ -17,43 +17,36 @@
 
 // Derived from `VariantBuilder`, `ListBuilder` and `ObjectBuilder` of parquet-variant 60.1.0, src/builder.rs, src/builder/list.rs
 // and src/builder/object.rs. Changed: written in Rattle; the nested `&mut` builders are one record with 64 containers, passed and
-// given back by value over a lent table of marks and five lent slices; `Drop` is the call `rollback`; every call is total and answers with
-// a number. Marks are new.
+// given back by value over a lent table of marks and five lent slices; `Drop` is the call `rollback`; every call is total, and a refused
+// one answers with a number. Marks are new.
 #![tactic(auto)]
 
 mod calls;
-mod view;
+mod made;
 
 pub use calls::{
     add_field_name, append_bytes, append_civil, append_packed, append_uuid, append_value, close,
     finish, mark, new_list, new_object, return_to, rollback, with_validate_unique_fields,
 };
+pub use made::{new, with_floor};
 use semantics::Builder;
-pub use view::{new, with_floor};
 
-#[derive(Clone, Copy)]
-pub enum Answer {
-    Done,
-    Refused(u8),
+// A refused call: document 01's number. The builder and all that was lent are as they were.
+#[derive(Clone, Copy, PartialEq, Eq, Debug)]
+pub struct Refused {
+    pub number: u8,
 }
 
-// A call's answer, and the builder then.
+// A refused floor, and the builder that holds it.
 #[derive(Clone, Copy)]
-pub struct Called {
-    pub answer: Answer,
+pub struct BadFloor {
+    pub refused: Refused,
     pub builder: Builder,
 }
 
-// Finish's answer: the bytes written into its output, or the number.
+// A finish that is carried out: the bytes written into its output, and the builder then.
 #[derive(Clone, Copy)]
-pub enum FinishAnswer {
-    Written(usize),
-    Refused(u8),
-}
-
-// Finish's answer, and the builder then.
-#[derive(Clone, Copy)]
-pub struct FinishCalled {
-    pub answer: FinishAnswer,
+pub struct Finished {
+    pub written: usize,
     pub builder: Builder,
 }

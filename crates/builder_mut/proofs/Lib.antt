@@ -1,4 +1,3 @@
--- What a thin call says beside the call by value, and what `lend` makes of it.
+-- What a thin call says beside the call by value.
 pub mod ThinLaws
-pub mod LendLaws
 pub mod ChainLaws

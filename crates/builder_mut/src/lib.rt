@@ -17,45 +17,12 @@
 
 // Derived from the `&mut self` methods of `VariantBuilder`, `ListBuilder` and `ObjectBuilder` of parquet-variant 60.1.0,
 // src/builder.rs, src/builder/list.rs and src/builder/object.rs. Changed: written in Rattle; each call takes the builder record by
-// `&mut`, copies it, makes the call by value and stores the record that came back.
+// `&mut`, makes the call by value on a copy and stores the record that came back; a refused call stores none.
 #![tactic(auto)]
 
-mod bridge;
-mod lending;
 mod thin;
 
-use calendar::civil::Civil;
-pub use lending::lend;
-use semantics::Builder;
 pub use thin::{
     add_field_name, append_bytes, append_civil, append_packed, append_uuid, append_value, close,
     finish, mark, new_list, new_object, return_to, rollback, with_validate_unique_fields,
 };
-use value::variant::{Variant, VariantBytes};
-
-// A call to be made. Its name, bytes, UUID and output stand beside it.
-#[derive(Clone, Copy)]
-pub enum Call {
-    AddFieldName,
-    AppendValue(Variant),
-    AppendBytes(VariantBytes),
-    AppendUuid,
-    NewList,
-    NewObject,
-    Close,
-    Rollback,
-    WithValidateUniqueFields(bool),
-    Finish,
-    AppendCivil(Civil),
-    AppendPacked(u8),
-    Mark,
-    ReturnTo(usize),
-}
-
-// A call's number, 0 where it was carried out; the bytes that a finish wrote; the builder then.
-#[derive(Clone, Copy)]
-pub struct LendCalled {
-    pub number: u8,
-    pub written: usize,
-    pub builder: Builder,
-}

@@ -8,7 +8,7 @@ ghost use Rattle.refusals.specs.Decide.{name_of};
 ghost use Rattle.builder.specs.Calls.{state};
 ghost use Rattle.builder_mut.specs.Calls.{DoesThin, FinishesThin};
 
-use builder::{Answer, FinishAnswer};
+use builder::Refused;
 use calendar::civil::Civil;
 use marks::NUMBERS;
 use semantics::Builder;
@@ -24,17 +24,15 @@ pub fn add_field_name(
     entries: &[usize],
     undo: &[usize],
     name: &[u8],
-) -> Answer
+) -> Result<(), Refused>
     ensures { DoesThin result b.new marks.now
         (storage_of value.now text.new ends.new entries.now undo.now)
         (state b.old marks.now
         (storage_of value.now text.old ends.old entries.now undo.now))
         (register_of name.now) }
 {
-    let c = *b;
-    let r = builder::add_field_name(c, marks, value, text, ends, entries, undo, name);
-    *b = r.builder;
-    r.answer
+    *b = builder::add_field_name(*b, marks, value, text, ends, entries, undo, name)?;
+    Ok(())
 }
 
 // A scalar of fixed size.
@@ -49,17 +47,15 @@ pub fn append_value(
     named: bool,
     name: &[u8],
     x: Variant,
-) -> Answer
+) -> Result<(), Refused>
     ensures { DoesThin result b.new marks.now
         (storage_of value.new text.new ends.new entries.new undo.new)
         (state b.old marks.now
         (storage_of value.old text.old ends.old entries.old undo.old))
         (append_of (name_of named name.now) (fixed x)) }
 {
-    let c = *b;
-    let r = builder::append_value(c, marks, value, text, ends, entries, undo, named, name, x);
-    *b = r.builder;
-    r.answer
+    *b = builder::append_value(*b, marks, value, text, ends, entries, undo, named, name, x)?;
+    Ok(())
 }
 
 // A date, or one of the two timestamps in microseconds, from a date and a time of day.
@@ -74,17 +70,15 @@ pub fn append_civil(
     named: bool,
     name: &[u8],
     x: Civil,
-) -> Answer
+) -> Result<(), Refused>
     ensures { DoesThin result b.new marks.now
         (storage_of value.new text.new ends.new entries.new undo.new)
         (state b.old marks.now
         (storage_of value.old text.old ends.old entries.old undo.old))
         (append_of (name_of named name.now) (civil x)) }
 {
-    let c = *b;
-    let r = builder::append_civil(c, marks, value, text, ends, entries, undo, named, name, x);
-    *b = r.builder;
-    r.answer
+    *b = builder::append_civil(*b, marks, value, text, ends, entries, undo, named, name, x)?;
+    Ok(())
 }
 
 // Packed decimal, two digits a byte, and a scale: the smallest of the three decimals that holds the number.
@@ -100,19 +94,17 @@ pub fn append_packed(
     name: &[u8],
     scale: u8,
     bytes: &[u8],
-) -> Answer
+) -> Result<(), Refused>
     ensures { DoesThin result b.new marks.now
         (storage_of value.new text.new ends.new entries.new undo.new)
         (state b.old marks.now
         (storage_of value.old text.old ends.old entries.old undo.old))
         (append_of (name_of named name.now) (packed scale bytes.now)) }
 {
-    let c = *b;
-    let r = builder::append_packed(
-        c, marks, value, text, ends, entries, undo, named, name, scale, bytes,
-    );
-    *b = r.builder;
-    r.answer
+    *b = builder::append_packed(
+        *b, marks, value, text, ends, entries, undo, named, name, scale, bytes,
+    )?;
+    Ok(())
 }
 
 // Binary, String, short text or plain text.
@@ -128,19 +120,17 @@ pub fn append_bytes(
     name: &[u8],
     kind: VariantBytes,
     bytes: &[u8],
-) -> Answer
+) -> Result<(), Refused>
     ensures { DoesThin result b.new marks.now
         (storage_of value.new text.new ends.new entries.new undo.new)
         (state b.old marks.now
         (storage_of value.old text.old ends.old entries.old undo.old))
         (append_of (name_of named name.now) (bytes_of kind bytes.now)) }
 {
-    let c = *b;
-    let r = builder::append_bytes(
-        c, marks, value, text, ends, entries, undo, named, name, kind, bytes,
-    );
-    *b = r.builder;
-    r.answer
+    *b = builder::append_bytes(
+        *b, marks, value, text, ends, entries, undo, named, name, kind, bytes,
+    )?;
+    Ok(())
 }
 
 pub fn append_uuid(
@@ -154,19 +144,17 @@ pub fn append_uuid(
     named: bool,
     name: &[u8],
     uuid: [u8; 16],
-) -> Answer
+) -> Result<(), Refused>
     ensures { DoesThin result b.new marks.now
         (storage_of value.new text.new ends.new entries.new undo.new)
         (state b.old marks.now
         (storage_of value.old text.old ends.old entries.old undo.old))
         (append_of (name_of named name.now) (uuid_of uuid)) }
 {
-    let c = *b;
-    let r = builder::append_uuid(
-        c, marks, value, text, ends, entries, undo, named, name, uuid,
-    );
-    *b = r.builder;
-    r.answer
+    *b = builder::append_uuid(
+        *b, marks, value, text, ends, entries, undo, named, name, uuid,
+    )?;
+    Ok(())
 }
 
 pub fn new_list(
@@ -179,17 +167,15 @@ pub fn new_list(
     undo: &mut [usize],
     named: bool,
     name: &[u8],
-) -> Answer
+) -> Result<(), Refused>
     ensures { DoesThin result b.new marks.now
         (storage_of value.now text.new ends.new entries.new undo.new)
         (state b.old marks.now
         (storage_of value.now text.old ends.old entries.old undo.old))
         (open_in (name_of named name.now) false) }
 {
-    let c = *b;
-    let r = builder::new_list(c, marks, value, text, ends, entries, undo, named, name);
-    *b = r.builder;
-    r.answer
+    *b = builder::new_list(*b, marks, value, text, ends, entries, undo, named, name)?;
+    Ok(())
 }
 
 pub fn new_object(
@@ -202,17 +188,15 @@ pub fn new_object(
     undo: &mut [usize],
     named: bool,
     name: &[u8],
-) -> Answer
+) -> Result<(), Refused>
     ensures { DoesThin result b.new marks.now
         (storage_of value.now text.new ends.new entries.new undo.new)
         (state b.old marks.now
         (storage_of value.now text.old ends.old entries.old undo.old))
         (open_in (name_of named name.now) true) }
 {
-    let c = *b;
-    let r = builder::new_object(c, marks, value, text, ends, entries, undo, named, name);
-    *b = r.builder;
-    r.answer
+    *b = builder::new_object(*b, marks, value, text, ends, entries, undo, named, name)?;
+    Ok(())
 }
 
 pub fn close(
@@ -223,17 +207,15 @@ pub fn close(
     ends: &[usize],
     entries: &mut [usize],
     undo: &[usize],
-) -> Answer
+) -> Result<(), Refused>
     ensures { DoesThin result b.new marks.now
         (storage_of value.new text.now ends.now entries.new undo.now)
         (state b.old marks.now
         (storage_of value.old text.now ends.now entries.old undo.now))
         close_of }
 {
-    let c = *b;
-    let r = builder::close(c, marks, value, text, ends, entries, undo);
-    *b = r.builder;
-    r.answer
+    *b = builder::close(*b, marks, value, text, ends, entries, undo)?;
+    Ok(())
 }
 
 pub fn rollback(
@@ -244,17 +226,15 @@ pub fn rollback(
     ends: &[usize],
     entries: &mut [usize],
     undo: &[usize],
-) -> Answer
+) -> Result<(), Refused>
     ensures { DoesThin result b.new marks.now
         (storage_of value.now text.now ends.now entries.new undo.now)
         (state b.old marks.now
         (storage_of value.now text.now ends.now entries.old undo.now))
         roll_back }
 {
-    let c = *b;
-    let r = builder::rollback(c, marks, value, text, ends, entries, undo);
-    *b = r.builder;
-    r.answer
+    *b = builder::rollback(*b, marks, value, text, ends, entries, undo)?;
+    Ok(())
 }
 
 // The uniqueness mark of the innermost object, for later calls.
@@ -267,19 +247,15 @@ pub fn with_validate_unique_fields(
     entries: &[usize],
     undo: &[usize],
     unique: bool,
-) -> Answer
+) -> Result<(), Refused>
     ensures { DoesThin result b.new marks.now
         (storage_of value.now text.now ends.now entries.now undo.now)
         (state b.old marks.now
         (storage_of value.now text.now ends.now entries.now undo.now))
         (uniqueness unique) }
 {
-    let c = *b;
-    let r = builder::with_validate_unique_fields(
-        c, marks, value, text, ends, entries, undo, unique,
-    );
-    *b = r.builder;
-    r.answer
+    *b = builder::with_validate_unique_fields(*b, marks, value, text, ends, entries, undo, unique)?;
+    Ok(())
 }
 
 // One mark more in the innermost container: the next number, at most 16.
@@ -291,17 +267,15 @@ pub fn mark(
     ends: &[usize],
     entries: &[usize],
     undo: &[usize],
-) -> Answer
+) -> Result<(), Refused>
     ensures { DoesThin result b.new marks.new
         (storage_of value.now text.now ends.now entries.now undo.now)
         (state b.old marks.old
         (storage_of value.now text.now ends.now entries.now undo.now))
         set_mark }
 {
-    let c = *b;
-    let r = builder::mark(c, marks, value, text, ends, entries, undo);
-    *b = r.builder;
-    r.answer
+    *b = builder::mark(*b, marks, value, text, ends, entries, undo)?;
+    Ok(())
 }
 
 // The return to a mark of the innermost container: that one stays set, later ones are gone.
@@ -314,17 +288,15 @@ pub fn return_to(
     entries: &mut [usize],
     undo: &[usize],
     mark: usize,
-) -> Answer
+) -> Result<(), Refused>
     ensures { DoesThin result b.new marks.now
         (storage_of value.now text.now ends.now entries.new undo.now)
         (state b.old marks.now
         (storage_of value.now text.now ends.now entries.old undo.now))
         (return_to mark) }
 {
-    let c = *b;
-    let r = builder::return_to(c, marks, value, text, ends, entries, undo, mark);
-    *b = r.builder;
-    r.answer
+    *b = builder::return_to(*b, marks, value, text, ends, entries, undo, mark)?;
+    Ok(())
 }
 
 // The dictionary at the start of `out`, and the builder finished: `VariantBuilder::finish` of the Rust.
@@ -337,15 +309,14 @@ pub fn finish(
     entries: &[usize],
     undo: &[usize],
     out: &mut [u8],
-) -> FinishAnswer
+) -> Result<usize, Refused>
     ensures { FinishesThin result b.new marks.now
         (storage_of value.now text.now ends.now entries.now undo.now)
         out.new (state b.old marks.now
         (storage_of value.now text.now ends.now entries.now undo.now))
         (finish_of out.old) }
 {
-    let c = *b;
-    let r = builder::finish(c, marks, value, text, ends, entries, undo, out);
-    *b = r.builder;
-    r.answer
+    let f = builder::finish(*b, marks, value, text, ends, entries, undo, out)?;
+    *b = f.builder;
+    Ok(f.written)
 }

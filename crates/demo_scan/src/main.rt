@@ -5,10 +5,7 @@
 // The file `stdout` was not made by this program but by a model of document 01 written apart from this code.
 #![tactic(auto)]
 
-use builder::{
-    Answer, Called, FinishAnswer, append_bytes, append_value, close, finish, new, new_list,
-    new_object,
-};
+use builder::{Refused, append_bytes, append_value, close, finish, new, new_list, new_object};
 use semantics::Builder;
 use std::io;
 use std::io::Write;
@@ -113,7 +110,7 @@ impl Scan {
         self.after(to, "reading", called)
     }
 
-    fn appended(&mut self, named: bool, name: &str, x: Variant) -> Called {
+    fn appended(&mut self, named: bool, name: &str, x: Variant) -> Result<Builder, Refused> {
         append_value(
             self.builder,
             &self.marks,
@@ -164,13 +161,19 @@ impl Scan {
         self.after(to, "close", called)
     }
 
-    // The call's line, and the builder after it.
-    fn after<W: Write>(&mut self, to: &mut W, what: &str, called: Called) -> io::Result<()> {
-        self.builder = called.builder;
-        let answer = called.answer;
-        match answer {
-            Answer::Done => writeln!(to, "{what} 0"),
-            Answer::Refused(number) => writeln!(to, "{what} {number}"),
+    // The call's line, and the builder after it, which a refused call leaves as it was.
+    fn after<W: Write>(
+        &mut self,
+        to: &mut W,
+        what: &str,
+        called: Result<Builder, Refused>,
+    ) -> io::Result<()> {
+        match called {
+            Ok(builder) => {
+                self.builder = builder;
+                writeln!(to, "{what} 0")
+            }
+            Err(Refused { number }) => writeln!(to, "{what} {number}"),
         }
     }
 
@@ -186,16 +189,15 @@ impl Scan {
             &[],
             &mut out,
         );
-        let answer = done.answer;
-        match answer {
-            FinishAnswer::Written(n) => {
+        match done {
+            Ok(f) => {
                 write!(to, "finish 0\nfields {fields}\nvalue ")?;
-                print::hex(to, &self.value, done.builder.counts.value)?;
+                print::hex(to, &self.value, f.builder.counts.value)?;
                 write!(to, "\ndictionary ")?;
-                print::hex(to, &out, n)?;
+                print::hex(to, &out, f.written)?;
                 writeln!(to)
             }
-            FinishAnswer::Refused(number) => writeln!(to, "finish {number}"),
+            Err(Refused { number }) => writeln!(to, "finish {number}"),
         }
     }
 }

@@ -4,16 +4,17 @@
 // The file `stdout` was not made by this program but by a model of document 01 written apart from this code.
 #![tactic(auto)]
 
-use builder::new;
-use builder_mut::{Call, LendCalled, lend};
+use builder::{Refused, new};
+use builder_mut::{append_bytes, append_value, close, finish, new_list};
+use semantics::Builder;
 use std::io;
 use std::io::Write;
 use value::variant::{Variant, VariantBytes};
 
-// The last call's answer with the builder, and the storage that it is lent.
+// The builder, and the storage that it is lent.
 #[derive(Drop)]
 struct Edge {
-    called: LendCalled,
+    builder: Builder,
     marks: [usize; 7168],
     value: [u8; 1024],
     entries: [usize; 512],
@@ -47,21 +48,20 @@ fn depths<W: Write>(to: &mut W) -> io::Result<()> {
 
 fn case<W: Write>(to: &mut W, label: &str, before: &[u8], last: &[u8]) -> io::Result<()> {
     let mut edge = Edge::new();
-    edge.run(before);
-    let first = edge.called.number;
-    edge.run(last);
-    write!(to, "{label}: {first} ")?;
-    edge.line(to)
+    let first = edge.run(before);
+    let then = first.and_then(|_| edge.run(last));
+    write!(to, "{label}: {} ", number_of(first))?;
+    edge.line(to, then)
+}
+
+fn number_of(answer: Result<usize, Refused>) -> u8 {
+    answer.err().map_or(0, |e| e.number)
 }
 
 impl Edge {
     fn new() -> Edge {
         Edge {
-            called: LendCalled {
-                number: 0,
-                written: 0,
-                builder: new(false),
-            },
+            builder: new(false),
             marks: [0; 7168],
             value: [0; 1024],
             entries: [0; 512],
@@ -69,32 +69,40 @@ impl Edge {
         }
     }
 
-    // The calls in order, up to the first one refused.
-    fn run(&mut self, calls: &[u8]) {
+    // The calls in order, up to the first one refused: the bytes that the last one wrote as its dictionary.
+    fn run(&mut self, calls: &[u8]) -> Result<usize, Refused> {
+        let mut written = 0;
         for c in calls {
-            if self.called.number == 0 {
-                self.made(*c);
-            }
+            written = self.made(*c)?;
         }
+        Ok(written)
     }
 
     // A list opened, a null, a close, a finish; `t` is a plain text of 63 bytes, any other byte one of 64.
-    fn made(&mut self, c: u8) {
+    fn made(&mut self, c: u8) -> Result<usize, Refused> {
+        let Edge {
+            builder: b,
+            marks,
+            value: v,
+            entries: es,
+            out,
+        } = self;
+        let x = Variant::Null;
         match c {
-            b'[' => self.lent(Call::NewList, b""),
-            b'n' => self.lent(Call::AppendValue(Variant::Null), b""),
-            b']' => self.lent(Call::Close, b""),
-            b'.' => self.lent(Call::Finish, b""),
-            b't' => self.lent(Call::AppendBytes(VariantBytes::Text), &[b'a'; 63]),
-            _ => self.lent(Call::AppendBytes(VariantBytes::Text), &[b'a'; 64]),
+            b'[' => new_list(b, marks, v, &mut [], &mut [], es, &mut [], false, b"")?,
+            b'n' => append_value(b, marks, v, &mut [], &mut [], es, &mut [], false, b"", x)?,
+            b']' => close(b, marks, v, &[], &[], es, &[])?,
+            b'.' => return finish(b, marks, v, &[], &[], es, &[], out),
+            b't' => self.text(&[b'a'; 63])?,
+            _ => self.text(&[b'a'; 64])?,
         }
+        Ok(0)
     }
 
-    fn lent(&mut self, call: Call, bytes: &[u8]) {
-        self.called = lend(
-            self.called.builder,
-            &mut self.marks,
-            call,
+    fn text(&mut self, t: &[u8]) -> Result<(), Refused> {
+        append_bytes(
+            &mut self.builder,
+            &self.marks,
             &mut self.value,
             &mut [],
             &mut [],
@@ -102,24 +110,24 @@ impl Edge {
             &mut [],
             false,
             b"",
-            bytes,
-            [0; 16],
-            &mut self.out,
-        );
+            VariantBytes::Text,
+            t,
+        )
     }
 
-    fn line<W: Write>(&self, to: &mut W) -> io::Result<()> {
-        let counts = self.called.builder.counts;
+    fn line<W: Write>(&self, to: &mut W, last: Result<usize, Refused>) -> io::Result<()> {
+        let counts = self.builder.counts;
         let names = counts.dictionary.num_field_names();
         let used = counts.value;
-        write!(to, "{}, {names} names, {used} bytes", self.called.number)?;
+        write!(to, "{}, {names} names, {used} bytes", number_of(last))?;
         if 0 < used {
             write!(to, ", ")?;
             print::front(to, &self.value, used)?;
         }
-        if 0 < self.called.written {
+        let written = last.unwrap_or(0);
+        if 0 < written {
             write!(to, ", dictionary ")?;
-            print::hex(to, &self.out, self.called.written)?;
+            print::hex(to, &self.out, written)?;
         }
         writeln!(to)
     }

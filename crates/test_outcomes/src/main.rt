@@ -5,8 +5,7 @@
 #![tactic(auto)]
 
 use builder::{
-    Answer, Called, FinishAnswer, append_bytes, append_value, close, finish, new, new_list,
-    new_object, rollback,
+    Refused, append_bytes, append_value, close, finish, new, new_list, new_object, rollback,
 };
 use semantics::Builder;
 use std::io;
@@ -238,13 +237,14 @@ impl<const VALUE: usize, const TEXT: usize, const ENDS: usize, const ENTRIES: us
         self.after(to, called)
     }
 
-    // The builder after a call.
-    fn after<W: Write>(&mut self, to: &mut W, called: Called) -> io::Result<()> {
-        self.builder = called.builder;
-        let answer = called.answer;
-        match answer {
-            Answer::Done => Ok(()),
-            Answer::Refused(number) => writeln!(to, "refused {number}"),
+    // The builder after a call, which a refused one leaves as it was.
+    fn after<W: Write>(&mut self, to: &mut W, called: Result<Builder, Refused>) -> io::Result<()> {
+        match called {
+            Ok(builder) => {
+                self.builder = builder;
+                Ok(())
+            }
+            Err(Refused { number }) => writeln!(to, "refused {number}"),
         }
     }
 
@@ -260,16 +260,15 @@ impl<const VALUE: usize, const TEXT: usize, const ENDS: usize, const ENTRIES: us
             &[],
             &mut out,
         );
-        let answer = done.answer;
-        match answer {
-            FinishAnswer::Written(n) => {
+        match done {
+            Ok(f) => {
                 write!(to, "{number} ")?;
-                print::hex(to, &self.value, done.builder.counts.value)?;
+                print::hex(to, &self.value, f.builder.counts.value)?;
                 write!(to, " ")?;
-                print::hex(to, &out, n)?;
+                print::hex(to, &out, f.written)?;
                 writeln!(to)
             }
-            FinishAnswer::Refused(number) => writeln!(to, "refused {number}"),
+            Err(Refused { number }) => writeln!(to, "refused {number}"),
         }
     }
 }

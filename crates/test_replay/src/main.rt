@@ -5,17 +5,17 @@
 // Each script is lent as much storage as it names, of one storage for all of them, which is not blank and never cleared.
 #![tactic(auto)]
 
+mod calls;
 mod compare;
 mod input;
 mod parse;
 mod poke;
 
-use builder::{Answer, with_floor};
-use builder_mut::{Call, lend};
+use builder::with_floor;
 use compare::Tally;
 use input::{Fail, Header, Start, field, read_count, read_header, read_start};
 use marks::NUMBERS;
-use parse::{Line, array, line_of};
+use parse::{Call, Line, line_of};
 use poke::alter;
 use semantics::Builder;
 use std::io;
@@ -110,15 +110,13 @@ fn script<R: Read, W: Write>(
 }
 
 fn begun<W: Write>(to: &mut W, tally: &mut Tally, s: Start) -> io::Result<Builder> {
-    let made = with_floor(s.unique, s.floor);
-    let answer = made.answer;
-    let number = match answer {
-        Answer::Done => 0,
-        Answer::Refused(n) => n,
+    let (number, builder) = match with_floor(s.unique, s.floor) {
+        Ok(b) => (0, b),
+        Err(e) => (e.refused.number, e.builder),
     };
     tally.start();
     tally.answered(to, s.number, number)?;
-    Ok(made.builder)
+    Ok(builder)
 }
 
 // The next line: a poke, a look at the record, or a call.
@@ -180,27 +178,15 @@ impl Lent<'_> {
         let mut space = [0xEEu8; 1024];
         let out = &mut space[..given.header.size.min(1024)];
         let finish = matches!(call, Call::Finish);
-        let d = lend(
-            *b,
-            self.marks,
-            call,
-            self.value,
-            self.text,
-            self.ends,
-            self.entries,
-            self.undo,
-            given.header.named,
-            given.name,
-            given.operand,
-            array(given.operand, 0),
-            out,
-        );
-        *b = d.builder;
+        let (number, written) = match self.make(b, call, given, out) {
+            Ok(written) => (0, written),
+            Err(e) => (e.number, 0),
+        };
         tally.count();
-        tally.answered(to, given.header.number, d.number)?;
+        tally.answered(to, given.header.number, number)?;
         if finish && given.header.number == 0 {
             tally.compared(to, "value", self.value, b.counts.value, given.operand)?;
-            tally.compared(to, "dictionary", out, d.written, given.name)?;
+            tally.compared(to, "dictionary", out, written, given.name)?;
         }
         Ok(())
     }

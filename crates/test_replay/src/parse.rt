@@ -1,6 +1,5 @@
 // One line's call. The numbers are those of the input, which tools/replay.py names.
 use crate::input::{Fail, Header};
-use builder_mut::Call;
 use calendar::civil::Civil;
 use calendar::date::Date;
 use value::decimal::{VariantDecimal4, VariantDecimal8, VariantDecimal16};
@@ -12,6 +11,30 @@ pub enum Line {
     Call(Call),
 }
 
+// A call, with what it takes beside the name, the operand and the output.
+#[derive(Clone, Copy)]
+pub enum Call {
+    AddFieldName,
+    NewList,
+    NewObject,
+    Close,
+    Rollback,
+    WithValidateUniqueFields(bool),
+    Append(Own),
+    Finish,
+    Mark,
+    ReturnTo(usize),
+}
+
+#[derive(Clone, Copy)]
+pub enum Own {
+    Bytes(VariantBytes),
+    Uuid([u8; 16]),
+    Value(Variant),
+    Civil(Civil),
+    Packed(u8),
+}
+
 pub fn line_of(h: Header, operand: &[u8]) -> Result<Line, Fail> {
     let argument = h.argument;
     let call = match h.call {
@@ -21,14 +44,14 @@ pub fn line_of(h: Header, operand: &[u8]) -> Result<Line, Fail> {
         4 => Call::Close,
         5 => Call::Rollback,
         6 => Call::WithValidateUniqueFields(argument == 1),
-        7 => Call::AppendBytes(kind(argument)),
-        8 => Call::AppendUuid,
-        9 => Call::AppendValue(scalar(argument, operand)),
+        7 => Call::Append(Own::Bytes(kind(argument))),
+        8 => Call::Append(Own::Uuid(array(operand, 0))),
+        9 => Call::Append(Own::Value(scalar(argument, operand))),
         10 => Call::Finish,
         11 => return Ok(Line::Poke),
         12 => return Ok(Line::Dump),
-        13 => Call::AppendCivil(civil(argument, operand)),
-        14 => Call::AppendPacked(argument),
+        13 => Call::Append(Own::Civil(civil(argument, operand))),
+        14 => Call::Append(Own::Packed(argument)),
         15 => Call::Mark,
         16 => Call::ReturnTo(number(operand, 0)),
         _ => return Err(Fail::Malformed),

@@ -7,4 +7,4 @@ pub returns : goal.returns
 returns c =
     let a = c.args in
     let l = (storage_of a.value.now a.text.now a.ends.now a.entries.now a.undo.now) in
-    does_moved a.b a.marks.now l (append (name_of a.named a.name.now) (uuid a.uuid)) tt c.view_of-v.ensures c.append_uuid_over-r.ensures c.called.ensures
+    does_moved a.b a.marks.now l (append (name_of a.named a.name.now) (uuid a.uuid)) tt c.view_of-v.ensures c.append_uuid_over-r.ensures c.moved.ensures

@@ -6,4 +6,4 @@ pub returns : goal.returns
 returns c =
     let a = c.args in
     let l = (storage_of a.value.now a.text.now a.ends.now a.entries.now a.undo.now) in
-    does_moved a.b a.marks.now l roll_back tt c.view_of-v.ensures c.rollback_over-r.ensures c.called.ensures
+    does_moved a.b a.marks.now l roll_back tt c.view_of-v.ensures c.rollback_over-r.ensures c.moved.ensures

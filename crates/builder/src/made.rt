@@ -3,7 +3,7 @@ ghost use Rattle.std.specs.Prelude.{◌≡◌, ◌<◌, set};
 ghost use Rattle.actions.specs.Actions.{elements_put};
 ghost use Rattle.builder.specs.Calls.{Makes, answer_of, fresh_of};
 
-use crate::{Answer, Called};
+use crate::{BadFloor, Refused};
 use actions::Moved;
 use refusals::make_number;
 use semantics::{Builder, Container, Counts, fresh_counts, no_container};
@@ -17,15 +17,11 @@ pub fn new(unique: bool) -> Builder
 
 // A fresh builder whose offsets, ids and dictionary numbers take no fewer bytes than the floor, 1 to 4. Any other floor is refused with 24;
 // the record then holds it, and so every call on that is 1.
-pub fn with_floor(unique: bool, floor: usize) -> Called
+pub fn with_floor(unique: bool, floor: usize) -> Result<Builder, BadFloor>
     ensures { Makes result unique floor }
 {
-    let b = fresh(unique, floor);
-    let n = make_number(floor);
-    Called {
-        answer: answer_of(n),
-        builder: b,
-    }
+    let builder = fresh(unique, floor);
+    answered(make_number(floor), builder).map_err(|refused| BadFloor { refused, builder })
 }
 
 fn fresh(unique: bool, floor: usize) -> Builder
@@ -38,38 +34,34 @@ fn fresh(unique: bool, floor: usize) -> Builder
     }
 }
 
-pub(crate) fn answer_of(n: u8) -> Answer
-    ensures { result ≡ answer_of n }
+// What a call of that number gives back, which is x where it is carried out.
+pub(crate) fn answered<T: Drop>(n: u8, x: T) -> Result<T, Refused>
+    ensures { result ≡ answer_of n x }
 {
     if n == 0 {
-        return Answer::Done;
+        Ok(x)
+    } else {
+        Err(Refused { number: n })
     }
-    Answer::Refused(n)
 }
 
 // The record with other counts, and other elements of the container that is innermost then.
-pub(crate) fn called(b: Builder, r: Moved) -> Called
-    ensures { result ≡ record {
-      answer = answer_of r.number;
-      builder = record {
-        containers = b.containers;
-        elements = elements_put b.elements r.counts.depth r.elements;
-        counts = r.counts;
-      };
-    } }
+pub(crate) fn moved(b: Builder, r: Moved) -> Result<Builder, Refused>
+    ensures { result ≡ answer_of r.number (record {
+      containers = b.containers;
+      elements = elements_put b.elements r.counts.depth r.elements;
+      counts = r.counts;
+    }) }
 {
-    let cs = b.containers;
-    let ns = b.elements;
-    let c = r.counts;
-    let next = Builder {
-        containers: cs,
-        elements: with_elements(ns, c.depth, r.elements),
-        counts: c,
+    let containers = b.containers;
+    let elements = with_elements(b.elements, r.counts.depth, r.elements);
+    let counts = r.counts;
+    let builder = Builder {
+        containers,
+        elements,
+        counts,
     };
-    Called {
-        answer: answer_of(r.number),
-        builder: next,
-    }
+    answered(r.number, builder)
 }
 
 // The elements with n of the innermost of d containers.
@@ -86,19 +78,21 @@ pub(crate) fn with_elements(ns: [usize; 64], d: usize, n: usize) -> [usize; 64]
 }
 
 // The record with another container at a place, other elements and other counts.
-pub(crate) fn called_with(b: Builder, ns: [usize; 64], at: usize, k: Container, c: Counts) -> Called
+pub(crate) fn with_container(
+    b: Builder,
+    at: usize,
+    k: Container,
+    ns: [usize; 64],
+    c: Counts,
+) -> Builder
     requires { at < 64 }
-    ensures { result ≡ record { answer = answer_of 0; builder = record { containers = set b.containers at k; elements = ns; counts = c } } }
+    ensures { result ≡ record { containers = set b.containers at k; elements = ns; counts = c } }
 {
-    let mut cs = b.containers;
-    cs[at] = k;
-    let next = Builder {
-        containers: cs,
+    let mut containers = b.containers;
+    containers[at] = k;
+    Builder {
+        containers,
         elements: ns,
         counts: c,
-    };
-    Called {
-        answer: answer_of(0),
-        builder: next,
     }
 }

@@ -1,5 +1,5 @@
 use Rattle.builder.specs.Calls.{fresh_of}
-use Rattle.builder.proofs.view.fresh.Goals as goal
+use Rattle.builder.proofs.made.fresh.Goals as goal
 
 pub returns : goal.returns
 unfolding fresh_of

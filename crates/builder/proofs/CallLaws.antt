@@ -16,8 +16,8 @@ use Rattle.semantics.specs.declared.View.{View}
 use Rattle.semantics.specs.Record.{Storage, Call, register, append, open_in, close, roll_back, uniqueness, set_mark, return_to, finish, no_mark, slot_of, mark_at, chained, is_open, view_of}
 use Rattle.semantics.specs.Damage.{damaged, unchained}
 use Rattle.semantics.specs.declared.refusal.Refusal.{Refusal}
-use Rattle.semantics.specs.Refusal.{refusal_number}
-use Rattle.semantics.proofs.RefusalLaws.{number_some}
+use Rattle.semantics.specs.Refusal.{refusal_number, number_told}
+use Rattle.semantics.proofs.RefusalLaws.{number_same, number_some}
 use Rattle.std.specs.Prelude.{Result, Ok, Err}
 use Rattle.semantics.specs.Table.{number_of}
 use Rattle.semantics.specs.Step.{step, after, carried_out, containers_after, marks_after, mark_to, put_mark, with_marks}
@@ -27,7 +27,7 @@ use Rattle.refusals.proofs.ViewLaws.{neither, broken_none, undamaged_unbroken}
 use Rattle.actions.specs.declared.Moved.{Moved}
 use Rattle.actions.specs.declared.Opened.{Opened}
 use Rattle.builder.specs.declared.Finished.{Finished}
-use Rattle.builder.specs.Calls.{state, Does, Finishes}
+use Rattle.builder.specs.Calls.{builder_then, state, Does, Finishes}
 use Rattle.actions.specs.declared.Marked.{Marked}
 use Rattle.actions.specs.declared.Returned.{Returned}
 use Rattle.actions.specs.declared.Ended.{Ended}
@@ -200,3 +200,10 @@ module _ (b : Builder) (ms : List ℕ) (l : Storage) {v : View} (p : v ≡ view_
       let w = rw p at q in
       let z = ne_eqb (number_of (view_of b ms) l (finish out)) 0 (λ h. number_some e (w.number ∙ h)) in
       rw (i, j, w.output, z) (w.number, refl, refl, refl, refl, refl)
+
+-- ---- a number and a builder are of one answer, so that `Does` leaves no other
+pub one_answer : (b : Builder) (r q : Result Builder Refusal) → number_told r ≡ number_told q → builder_then b r ≡ builder_then b q → r ≡ q
+one_answer b (Ok x) (Ok y) n e = ap Ok e
+one_answer b (Ok x) (Err g) n e = absurd (number_some g (sym n))
+one_answer b (Err f) (Ok y) n e = absurd (number_some f n)
+one_answer b (Err f) (Err g) n e = ap Err (number_same f g n)

@@ -1,5 +1,5 @@
 -- Each arm by the crate's own answer.
-use mathlib.Core.Path.{refl, sym, ◌∙◌}
+use mathlib.Core.Path.{refl}
 use Rattle.ffi.specs.BatchFile.{step_over}
 use Rattle.ffi.proofs.BatchFileLaws.{tells}
 use Rattle.ffi.proofs.batch_file.variant_batch_record_at.Goals as goal

@@ -16,14 +16,12 @@ impl Lent<'_> {
         given: Given,
         out: &mut [u8],
     ) -> Result<usize, Refusal> {
-        let Lent {
-            value,
-            text,
-            ends,
-            entries,
-            undo,
-            marks,
-        } = self;
+        let value = &mut *self.value;
+        let text = &mut *self.text;
+        let ends = &mut *self.ends;
+        let entries = &mut *self.entries;
+        let undo = &mut *self.undo;
+        let marks = &mut *self.marks;
         let name = given.name;
         let named = given.header.named;
         match call {
@@ -44,14 +42,12 @@ impl Lent<'_> {
     }
 
     fn append(&mut self, b: &mut Builder, own: Own, given: Given) -> Result<(), Refusal> {
-        let Lent {
-            value: v,
-            text,
-            ends,
-            entries: es,
-            undo,
-            marks,
-        } = self;
+        let v = &mut *self.value;
+        let text = &mut *self.text;
+        let ends = &mut *self.ends;
+        let es = &mut *self.entries;
+        let undo = &mut *self.undo;
+        let marks = &mut *self.marks;
         let named = given.header.named;
         let name = given.name;
         let bytes = given.operand;

@@ -747,7 +747,7 @@ def call_term(call):
 
 
 def container_term(c):
-    parent = "New" if c.entry[0] == "new" else f"(Replaced {c.entry[1]} {c.entry[2]})"
+    parent = "None" if c.entry[0] == "new" else f"(Some (former {c.entry[1]} {c.entry[2]}))"
     return f"box {c.value} {c.names} {c.namebytes} {c.entries} {c.undo} {parent} {bools(c.kind == 'object')} {bools(c.unique)} {c.marks}"
 
 
@@ -777,13 +777,12 @@ def step_term(step):
 
 
 COMPARE = """-- Steps to be held against `step`, and the places of those that differ.
-use Rattle.std.specs.Prelude.{Bool, true, false, cond, not, ◌&&◌, ◌||◌, List, [], ◌∷◌, ◌++◌, ℕ, ◌+◌, ◌-◌, eqb, leb, length, replicate}
+use Rattle.std.specs.Prelude.{Bool, true, false, cond, not, ◌&&◌, ◌||◌, List, [], ◌∷◌, ◌++◌, ℕ, ◌+◌, ◌-◌, eqb, leb, length, replicate, Option as Optional, Some, None}
 use Rattle.metadata.specs.Names.{same}
+use Rattle.container.specs.declared.Entry.{Entry}
 use Rattle.semantics.specs.declared.Container.{Container}
 use Rattle.semantics.specs.declared.Counts.{Counts}
 use Rattle.semantics.specs.declared.Mark.{Mark}
-use Rattle.semantics.specs.declared.ParentEntry.{ParentEntry}
-use Rattle.semantics.specs.declared.ParentEntry.TheVariants.{New, Replaced}
 use Rattle.semantics.specs.Record.{Storage, storage_of, State, Call, table_size, marks_of}
 use Rattle.semantics.specs.Step.{step, lent_output}
 
@@ -796,13 +795,16 @@ pub record Check : Type 0 where
   pub output : List ℕ
   pub written : ℕ
 
-abbrev pub box : ℕ → ℕ → ℕ → ℕ → ℕ → ParentEntry → Bool → Bool → ℕ → Container
+abbrev pub former : ℕ → ℕ → Entry
+former id offset = record { id = id; offset = offset }
+
+abbrev pub box : ℕ → ℕ → ℕ → ℕ → ℕ → Optional Entry → Bool → Bool → ℕ → Container
 box value names text entries undo parent object unique marks =
     record { value = value; names = names; text = text; entries = entries; undo = undo; parent = parent; object = object; unique = unique; marks = marks }
 
 -- the containers that are listed, and others to 64
 abbrev pub padded : List Container → List Container
-padded cs = cs ++ replicate (64 - length cs) (box 9 8 7 6 5 (Replaced 5 4) true true 3)
+padded cs = cs ++ replicate (64 - length cs) (box 9 8 7 6 5 (Some (former 5 4)) true true 3)
 
 -- so the elements
 abbrev pub filled : List ℕ → List ℕ
@@ -854,11 +856,11 @@ unfoldable pub alike : Bool → Bool → Bool
 alike true b = b
 alike false b = not b
 
-unfoldable pub alike_parents : ParentEntry → ParentEntry → Bool
-alike_parents New New = true
-alike_parents New (Replaced i o) = false
-alike_parents (Replaced i o) New = false
-alike_parents (Replaced i o) (Replaced j p) = eqb i j && eqb o p
+unfoldable pub alike_parents : Optional Entry → Optional Entry → Bool
+alike_parents None None = true
+alike_parents None (Some e) = false
+alike_parents (Some e) None = false
+alike_parents (Some e) (Some f) = eqb e.id f.id && eqb e.offset f.offset
 
 unfoldable pub alike_containers : Container → Container → Bool
 alike_containers k l =
@@ -953,7 +955,7 @@ use Rattle.container.specs.Sort.{insert, sort}
 use Rattle.container.specs.Undo.{restore, replay}
 use Rattle.container.specs.Close.{fronted}
 use Rattle.measure.specs.Measure.{container_length, value_length, measured, whole_values, starts_in}
-use Rattle.semantics.specs.declared.ParentEntry.TheVariants.{New, Replaced}
+use Rattle.std.specs.Prelude.{Some, None}
 use Rattle.semantics.specs.Record.{fixed, bytes, uuid, register, append, open_in, close, roll_back, uniqueness, set_mark, return_to, finish}
 use Rattle.semantics.specs.Record.{rising, chained, mark_at, marks_of, falling, marks_hold}
 use Rattle.semantics.specs.Damage.{over_used, unchained, bad_floor, fallen_ends, misplaced_inner, misplaced_parent, uncounted, damaged_parent}
@@ -961,7 +963,7 @@ use Rattle.semantics.specs.Table.{header, number_of}
 use Rattle.semantics.specs.Step.{registered, appended, opened, new_container, entries_closed, closed, rolled_back, finished, dictionary_of, after, step}
 use Rattle.semantics.specs.Step.{with_marks, put_mark, entries_returned, returned}
 use Rattle.semantics.specs.Step as steps
-use Rattle.agree.specs.Compare.{Check, box, state, leaves, refuses, alike, alike_parents, alike_containers, begins, counts, alike_marks, marked}
+use Rattle.agree.specs.Compare.{Check, box, former, state, leaves, refuses, alike, alike_parents, alike_containers, begins, counts, alike_marks, marked}
 use Rattle.agree.specs.Compare.{alike_counts, alike_storage, alike_states, agrees, faults}
 
 """

@@ -1,35 +1,36 @@
 -- An append from its rows, its name and entry, and its scalar's bytes.
 use mathlib.Core.Path.{◌≡◌, refl, sym, ◌∙◌, ap}
-use mathlib.Core.Bool.{Bool, true, false, cond}
-use mathlib.Core.List.{List, [], ◌∷◌, ◌++◌}
-use mathlib.Core.Option.{Option}
+use mathlib.Core.Bool.{Bool, true, false}
+use mathlib.Core.List.{List, ◌++◌}
+use mathlib.Core.Option.{Option, some}
 use Prim.Native.Nat.{ℕ}
 use lib.Dec.{eqb}
 use lib.ListN.{length, replicate, take}
 use lib.Seq.{take-append_seam}
 use borrow.Author.Tests.{eq-eqb, ne_eqb, eqb-true, eqb-false}
-use native.Mathlib.Omega.{arith}
-use Rattle.encoding.specs.Rows.{row, first}
-use Rattle.value.specs.declared.variant.VariantBytes.{VariantBytes}
+use Rattle.encoding.specs.Rows.{first}
 use Rattle.encoding.specs.Slices.{Placed, Writes, write}
 use Rattle.value.specs.declared.variant.Variant.{Variant}
 use Rattle.value.specs.Decimal.{out_of_range}
-use Rattle.value.specs.Scalar.{ill_formed, scalar_bytes, stored_bytes, stored_uuid, stored_variant}
+use Rattle.value.specs.Scalar.{scalar_bytes, stored_variant}
+use Rattle.packed_decimal.specs.PackedDecimal.{packed_variant}
+use Rattle.packed_decimal.specs.Calls.{ReadsPacked, packed_rows}
 use Rattle.metadata.specs.Names.{Name}
 use Rattle.semantics.specs.declared.View.{View}
-use Rattle.semantics.specs.Record.{Storage, Scalars, bytes, fixed, append, scalar_of, sixteen, storage_of}
+use Rattle.semantics.specs.Record.{Storage, Scalars, fixed, append, scalar_of, sixteen, storage_of}
 use Rattle.semantics.specs.Table.{scalar_rows, number_of}
 use Rattle.semantics.specs.Step.{appended}
 use Rattle.semantics.proofs.Demand1.{scalar_order}
 use Rattle.refusals.specs.Decide.{enter_rows, size_told}
 use Rattle.refusals.proofs.RowLaws.{append_number, own_before, own_row, own_zero}
 use Rattle.actions.specs.declared.enter.Entered.{Entered}
-use Rattle.actions.specs.Actions.{EntersBy, Leaves, OwnBy, StoredAs, entries_put, moved_by, bytes_by, size_by, value_by, undo_put}
+use Rattle.actions.specs.Actions.{EntersBy, Leaves, entries_put, moved_by, undo_put}
+use Rattle.actions.specs.Append.{OwnBytes, size_by}
 use Rattle.actions.specs.declared.Moved.{Moved}
 use Rattle.std.specs.Prelude.{IsOk, Result, Ok, Err}
 use Rattle.semantics.specs.declared.refusal.Refusal.{Refusal}
 use Rattle.semantics.specs.declared.refusal.Refusal.TheVariants as refusal
-use Rattle.semantics.specs.Refusal.{number_told}
+use Rattle.semantics.specs.Refusal.{number_told, refusal_number}
 use Rattle.semantics.proofs.RefusalLaws.{number_some}
 use Rattle.actions.proofs.EnterLaws.{enter_clears, refuses}
 
@@ -42,10 +43,6 @@ append_rows_lem v l nm x {own} {size} o s = go (eqb own 0) refl ∙ (rw o (appen
     go : (t : Bool) → eqb own 0 ≡ t → first (enter_rows v l nm true false own size) ≡ first (enter_rows v l nm true false own (length (scalar_bytes (scalar_of x))))
     go true e = ap (λ k. first (enter_rows v l nm true false own k)) (s (eqb-true own 0 e))
     go false e = own_before v l nm true false own size _ (eqb-false own 0 e)
-
-abbrev variant_told : Variant → Result Variant Refusal → Variant
-variant_told x (Ok y) = y
-variant_told x (Err e) = x
 
 module _ {v : View} {l : Storage} {nm : Option Name} (x : Scalars) {own size : ℕ} (o : own ≡ first (scalar_rows x)) (s : own ≡ 0 → size ≡ length (scalar_bytes (scalar_of x))) where
   -- refused: all is as it was
@@ -71,89 +68,71 @@ module _ {v : View} {l : Storage} {nm : Option Name} (x : Scalars) {own size : �
         let q : value ≡ write v.counts.value (scalar_bytes (scalar_of x)) l.value = rw (w.bytes, ← i, c.room) in
         record { number = a.number ∙ append_rows_lem v l nm x o s; moved = λ p. rw (b.counts, b.elements, i); storage = rw (q, a.text_left, a.ends_left, append_rows_lem v l nm x o s, z, g, h, b.entries, b.undo) }
 
--- ---- a scalar that is stored as one of fixed size
+-- ---- a scalar whose bytes are those stored for a value, or that has its own refusal
 
-stored_size_lem : {s : Scalars} {r : Result Variant Refusal} → StoredAs s r → number_told r ≡ 0 → size_told (size_by r) ≡ length (scalar_bytes (scalar_of s))
-stored_size_lem {r = Ok x} t z = ap (λ y. length (scalar_bytes y)) (sym (t.scalar x refl))
-stored_size_lem {r = Err e} t z = absurd (number_some e z)
+size_number : {A : Type 0} (stored : A → List ℕ) (x : Result A Refusal) → number_told (size_by stored x) ≡ number_told x
+size_number stored (Ok x) = refl
+size_number stored (Err e) = refl
 
-size_number : (r : Result Variant Refusal) → number_told (size_by r) ≡ number_told r
-size_number (Ok x) = refl
-size_number (Err e) = refl
+size_bytes : {A : Type 0} (stored : A → List ℕ) {s : Scalars} (x : Result A Refusal) → OwnBytes stored s x → number_told (size_by stored x) ≡ 0
+    → size_told (size_by stored x) ≡ length (scalar_bytes (scalar_of s))
+size_bytes stored (Ok x) t z = ap length (sym (t.bytes x refl))
+size_bytes stored (Err e) t z = absurd (number_some e z)
 
-module _ {s : Scalars} {own : Result Variant Refusal} {size : Result ℕ Refusal} (h : size ≡ size_by own) (t : StoredAs s own) where
-  stored_number : number_told size ≡ first (scalar_rows s)
-  stored_number = rw (h, size_number own) t.number
+module _ {A : Type 0} (stored : A → List ℕ) (x : Result A Refusal) {size : Result ℕ Refusal} (h : size ≡ size_by stored x) where
+  pub own_number : {s : Scalars} → OwnBytes stored s x → number_told size ≡ first (scalar_rows s)
+  own_number t = rw (h, size_number stored x) t.number
 
-  stored_bytes_lem : number_told size ≡ 0 → size_told size ≡ length (scalar_bytes (scalar_of s))
-  stored_bytes_lem z = rw h (stored_size_lem t (sym (size_number own) ∙ (rw h at z)))
+  pub own_size : {s : Scalars} → OwnBytes stored s x → number_told size ≡ 0 → size_told size ≡ length (scalar_bytes (scalar_of s))
+  own_size t z = rw h (size_bytes stored x t (rw h at z))
 
-  pub stored_stays : {v : View} {l : Storage} {nm : Option Name} {e f : Refusal} {r : Result Moved Refusal} {text ends : List ℕ} → EntersBy v l nm true false (size_told size) (first (enter_rows v l nm true false (number_told size) (size_told size))) (Err e) text ends → r ≡ Err f
-      → f ≡ e → Leaves v l (append nm s) r (storage_of l.value text ends l.entries l.undo)
-  stored_stays a q i = append_stays s stored_number stored_bytes_lem a q i
+  module _ {v : View} {l : Storage} {nm : Option Name} {text ends : List ℕ} where
+    -- one that is entered is not refused
+    pub own_entered : {e : Entered} → EntersBy v l nm true false (size_told size) (first (enter_rows v l nm true false (number_told size) (size_told size))) (Ok e) text ends → IsOk x
+    own_entered a = go x (sym (size_number stored x) ∙ (rw h at (own_zero v l nm true false (number_told size) (size_told size) (sym a.number))))
+      where
+        go : (r : Result A Refusal) → number_told r ≡ 0 → IsOk r
+        go (Ok y) z = refl
+        go (Err f) z = absurd (number_some f z)
 
-  pub stored_writes : {v : View} {l : Storage} {nm : Option Name} {e : Entered} {text ends : List ℕ} {p : Placed} {value entries undo : List ℕ} {x : Variant} → EntersBy v l nm true false (size_told size) (first (enter_rows v l nm true false (number_told size) (size_told size))) (Ok e) text ends
-      → entries ≡ entries_put e l.entries → undo ≡ undo_put e l.entries l.undo → own ≡ Ok x → Writes v.counts.value (scalar_bytes (stored_variant x)) l.value p value
-      → Leaves v l (append nm s) (Ok (moved_by e)) (storage_of value text ends entries undo)
-  stored_writes {p = p} {x = x} a g k q w = append_writes s stored_number stored_bytes_lem a {p = p} g k (rw (t.scalar x q) w)
+    pub own_stays : {s : Scalars} {e f : Refusal} {r : Result Moved Refusal} → OwnBytes stored s x → EntersBy v l nm true false (size_told size) (first (enter_rows v l nm true false (number_told size) (size_told size))) (Err e) text ends
+        → r ≡ Err f → f ≡ e → Leaves v l (append nm s) r (storage_of l.value text ends l.entries l.undo)
+    own_stays {s} t a q i = append_stays s (own_number t) (own_size t) a q i
 
--- one that is entered is not refused
-pub stored_whole : {v : View} {l : Storage} {nm : Option Name} (own : Result Variant Refusal) {size : Result ℕ Refusal} {e : Entered} {text ends : List ℕ} → size ≡ size_by own
-    → EntersBy v l nm true false (size_told size) (first (enter_rows v l nm true false (number_told size) (size_told size))) (Ok e) text ends → IsOk own
-stored_whole {v} {l} {nm} own {size} h a = go own (sym (size_number own) ∙ (rw h at (own_zero v l nm true false (number_told size) (size_told size) (sym a.number))))
-  where
-    go : (r : Result Variant Refusal) → number_told r ≡ 0 → IsOk r
-    go (Ok x) z = refl
-    go (Err f) z = absurd (number_some f z)
+    pub own_writes : {s : Scalars} {e : Entered} {y : A} {p : Placed} {value entries undo : List ℕ} → OwnBytes stored s x → EntersBy v l nm true false (size_told size) (first (enter_rows v l nm true false (number_told size) (size_told size))) (Ok e) text ends
+        → entries ≡ entries_put e l.entries → undo ≡ undo_put e l.entries l.undo → x ≡ Ok y → Writes v.counts.value (stored y) l.value p value
+        → Leaves v l (append nm s) (Ok (moved_by e)) (storage_of value text ends entries undo)
+    own_writes {s} {y = y} {p = p} t a g k q w = append_writes s (own_number t) (own_size t) a {p = p} g k (rw (t.bytes y q) w)
 
--- one of fixed size itself
-pub fixed_stored : (x : Variant) → StoredAs (fixed x) (value_by x)
-fixed_stored x = go (out_of_range x) refl
-  where
-    is_err : {e : Refusal} {y : Variant} → Err e ≡ Ok y → ⊥
-    is_err {e} q = number_some e (ap number_told q)
+-- ---- a scalar's own refusal, and what is stored for it
 
-    go : (t : Bool) → out_of_range x ≡ t → StoredAs (fixed x) (cond t (Err refusal.OutOfRange) (Ok x))
-    go true e = record { number = own_row 7 refl (sym e); scalar = λ y q. absurd (is_err q) }
-    go false e = record { number = own_row 7 refl (sym e); scalar = λ y q. ap stored_variant (ap (variant_told x) q) }
+pub own_refuses : {A : Type 0} (stored : A → List ℕ) (s : Scalars) (r : Refusal) → refusal_number r ≡ first (scalar_rows s) → OwnBytes stored s (Err r)
+own_refuses stored s r e = record { number = e; bytes = λ x q. absurd (number_some r (ap number_told q)) }
 
--- one that comes in another form, by its rows and the scalar that is stored for it
-pub own_stored : (s : Scalars) (x : Variant) {r : Result Variant Refusal} → scalar_of s ≡ stored_variant x → OwnBy (scalar_rows s) x r → StoredAs s r
-own_stored s x {r} q e = record { number = e.number; scalar = λ y p. q ∙ ap stored_variant (ap (variant_told x) (sym (e.variant (sym e.number ∙ ap number_told p)) ∙ p)) }
+value_told : {A : Type 0} → A → Result A Refusal → A
+value_told x (Ok y) = y
+value_told x (Err r) = x
 
--- ---- text or binary, by its own row and its size
+pub own_stores : {A : Type 0} (stored : A → List ℕ) (s : Scalars) (x : A) → 0 ≡ first (scalar_rows s) → scalar_bytes (scalar_of s) ≡ stored x → OwnBytes stored s (Ok x)
+unfolding value_told
+own_stores stored s x e b = record { number = e; bytes = λ y q. b ∙ ap stored (ap (value_told x) q) }
 
-bytes_number : (k : VariantBytes) (bs : List ℕ) → number_told (bytes_by k bs) ≡ first (scalar_rows (bytes k bs))
-bytes_number k bs = go (ill_formed k bs) refl
-  where
-    go : (t : Bool) → ill_formed k bs ≡ t → number_told (cond t (Err refusal.IllFormed) (Ok (length (scalar_bytes (stored_bytes k bs))))) ≡ first (row 8 (ill_formed k bs) ∷ [])
-    go true e = own_row 8 refl (sym e)
-    go false e = own_row 8 refl (sym e)
+-- one of fixed size, by its one row
+pub fixed_refused : (x : Variant) → out_of_range x ≡ true → OwnBytes (λ v. scalar_bytes (stored_variant v)) (fixed x) (Err refusal.OutOfRange)
+fixed_refused x e = own_refuses (λ v. scalar_bytes (stored_variant v)) (fixed x) refusal.OutOfRange (own_row 7 refl (sym e))
 
-bytes_size : (k : VariantBytes) (bs : List ℕ) → number_told (bytes_by k bs) ≡ 0 → size_told (bytes_by k bs) ≡ length (scalar_bytes (scalar_of (bytes k bs)))
-bytes_size k bs = go (ill_formed k bs)
-  where
-    go : (t : Bool) → number_told (cond t (Err refusal.IllFormed) (Ok (length (scalar_bytes (stored_bytes k bs))))) ≡ 0
-        → size_told (cond t (Err refusal.IllFormed) (Ok (length (scalar_bytes (stored_bytes k bs))))) ≡ length (scalar_bytes (stored_bytes k bs))
-    go true e = absurd (omega arith)
-    go false e = refl
+pub fixed_stored : (x : Variant) → out_of_range x ≡ false → OwnBytes (λ v. scalar_bytes (stored_variant v)) (fixed x) (Ok x)
+fixed_stored x e = own_stores (λ v. scalar_bytes (stored_variant v)) (fixed x) x (own_row 7 refl (sym e)) refl
 
-pub bytes_own_number : (k : VariantBytes) (bs : List ℕ) {size : Result ℕ Refusal} → size ≡ bytes_by k bs → number_told size ≡ first (scalar_rows (bytes k bs))
-bytes_own_number k bs h = rw h (bytes_number k bs)
-
-pub bytes_own_size : (k : VariantBytes) (bs : List ℕ) {size : Result ℕ Refusal} → size ≡ bytes_by k bs → number_told size ≡ 0 → size_told size ≡ length (scalar_bytes (scalar_of (bytes k bs)))
-bytes_own_size k bs h z = rw h (bytes_size k bs (rw h at z))
+-- packed decimal that is read is the scalar that is to be
+pub packed_read : {bs : List ℕ} {scale : ℕ} {v : Variant} → ReadsPacked bs scale (Ok v) → v ≡ packed_variant bs scale
+packed_read {bs} {scale} {v} t =
+    let z = eq-eqb (first (packed_rows bs scale)) 0 (sym t.number) in
+    let p : some v ≡ some (packed_variant bs scale) = rw z at t.variant in
+    cc
 
 -- ---- a UUID
 
 -- its 16 bytes are not cut or filled
-sixteen_whole : (bs : List ℕ) → length bs ≡ 16 → sixteen bs ≡ bs
+pub sixteen_whole : (bs : List ℕ) → length bs ≡ 16 → sixteen bs ≡ bs
 sixteen_whole bs e = ap (λ n. take n (bs ++ replicate 16 0)) (sym e) ∙ take-append_seam bs (replicate 16 0)
-
-pub uuid_size : (bs : List ℕ) → length bs ≡ 16 → 17 ≡ length (scalar_bytes (stored_uuid (sixteen bs)))
-unfolding scalar_bytes
-uuid_size bs e = rw (sixteen_whole bs e, e)
-
-pub writes_uuid : (at : ℕ) (bs l : List ℕ) {p : Placed} {value : List ℕ} → length bs ≡ 16
-    → Writes at (scalar_bytes (stored_uuid bs)) l p value → Writes at (scalar_bytes (stored_uuid (sixteen bs))) l p value
-writes_uuid at bs l e w = rw (sixteen_whole bs e) w

@@ -7,8 +7,8 @@ use native.Mathlib.Omega.{arith}
 use lib.Dec.{leb, ltb}
 use lib.ListN.{get_or, length, set}
 use borrow.Author.Tests.{ltb-true, ltb-false, lt-ltb, le-ltb, leb-true, leb-false, le-leb, lt-leb}
-use Rattle.semantics.specs.declared.ParentEntry.{ParentEntry}
-use Rattle.semantics.specs.declared.ParentEntry.TheVariants.{New, Replaced}
+use Rattle.std.specs.Prelude.{Option as Optional, Some, None}
+use Rattle.container.specs.declared.Entry.{Entry}
 use Rattle.semantics.specs.declared.Builder.{Builder}
 use Rattle.semantics.specs.declared.View.{View}
 use Rattle.semantics.specs.Record.{Storage, Call, register, append, open_in, close, roll_back, uniqueness, set_mark, return_to, finish, no_mark, view_of, inner_elements, parent_elements, in_list, is_open}
@@ -60,19 +60,19 @@ put_siblings : (ns : List ℕ) (d n : ℕ) → n ≡ parent_elements ns d → el
 put_siblings ns d n e = rw (e, siblings_inner ns d) (put_same ns (d - 1))
 
 -- a child rolled back
-put_back : (v : View) (ns : List ℕ) (p : ParentEntry) → v.siblings ≡ parent_elements ns v.counts.depth
+put_back : (v : View) (ns : List ℕ) (p : Optional Entry) → v.siblings ≡ parent_elements ns v.counts.depth
     → elements_put ns (v.counts.depth - 1) (siblings_back v.parent.object v.siblings p) ≡ cond (ltb 1 v.counts.depth) (elements_back v p ns) ns
-put_back v ns New s = go (ltb 1 v.counts.depth) v.parent.object refl refl
+put_back v ns None s = go (ltb 1 v.counts.depth) v.parent.object refl refl
   where
     d : ℕ
     d = v.counts.depth
 
     go : (t o : Bool) → ltb 1 d ≡ t → v.parent.object ≡ o
-        → elements_put ns (d - 1) (siblings_back v.parent.object v.siblings New) ≡ cond (ltb 1 d) (elements_back v New ns) ns
+        → elements_put ns (d - 1) (siblings_back v.parent.object v.siblings None) ≡ cond (ltb 1 d) (elements_back v None ns) ns
     go true false e o = let p : d - 1 - 1 ≡ d - 2 = omega arith in rw (e, o, lt-ltb 0 (d - 1) (omega (arith, ltb-true)), p)
     go true true e o = rw (e, o) (put_siblings ns d v.siblings s)
     go false o e q = rw (e, le-ltb 0 (d - 1) (omega (arith, ltb-false)))
-put_back v ns (Replaced id offset) s = go (ltb 1 v.counts.depth) (put_siblings ns v.counts.depth v.siblings s)
+put_back v ns (Some former) s = go (ltb 1 v.counts.depth) (put_siblings ns v.counts.depth v.siblings s)
   where
     go : (t : Bool) → elements_put ns (v.counts.depth - 1) v.siblings ≡ ns → elements_put ns (v.counts.depth - 1) v.siblings ≡ cond t ns ns
     go true h = h

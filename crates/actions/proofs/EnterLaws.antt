@@ -1,6 +1,6 @@
 -- A name added where it is new, and the entry of the value that comes.
 use mathlib.Core.Path.{◌≡◌, refl, sym, ◌∙◌, ap}
-use mathlib.Core.Bool.{Bool, true, false, cond, not, ◌&&◌, true≢false}
+use mathlib.Core.Bool.{Bool, true, false, cond, not, ◌&&◌, true≢false, and-false}
 use mathlib.Core.List.{List}
 use mathlib.Core.Option.{Option, none, some}
 use Prim.Native.Nat.{ℕ, ◌+◌, ◌^◌, ◌≤◌, ◌<◌}
@@ -14,18 +14,18 @@ use Rattle.metadata.specs.declared.MetadataBuilder.{MetadataBuilder}
 use Rattle.metadata.specs.Names.{Name}
 use Rattle.metadata.specs.Calls.{has_room}
 use Rattle.container.specs.Entries.{room_for}
-use Rattle.semantics.specs.declared.ParentEntry.TheVariants.{New}
 use Rattle.semantics.specs.declared.View.{View}
 use Rattle.semantics.specs.declared.Counts.{Counts}
-use Rattle.std.specs.Prelude.{Some, None, Result, Ok, Err}
+use Rattle.std.specs.Prelude.{Option as Optional, Some, None, Result, Ok, Err}
 use Rattle.semantics.specs.declared.refusal.Refusal.{Refusal}
 use Rattle.semantics.specs.Refusal.{refusal_number}
 use Rattle.semantics.proofs.RefusalLaws.{number_some}
-use Rattle.semantics.specs.Record.{Storage, Call, in_list, in_object, inner_size, unique_now}
+use Rattle.semantics.specs.Record.{Storage, Call, in_list, in_object, inner_size, is_open, unique_now}
 use Rattle.semantics.specs.Table.{number_of, held, live_under, names_full, entries_full, undo_full}
-use Rattle.semantics.specs.Step.{place_for, count_with, dictionary_with, ends_with, entries_with, parent_with, text_with, undo_count_with, undo_with, with_counts}
+use Rattle.semantics.specs.Step.{id_for, place_for, count_with, dictionary_with, ends_with, entries_with, parent_with, text_with, undo_count_with, undo_with, with_counts}
 use Rattle.refusals.specs.declared.Field.{Field}
-use Rattle.refusals.specs.Decide.{Decides, enter_rows, field_of, full_by, is_new, live_into, no_field, unkept_by}
+use Rattle.refusals.specs.declared.Field.TheVariants.{Unnamed, Fresh, Held}
+use Rattle.refusals.specs.Decide.{Decides, enter_rows, field_fresh, field_id, field_of, field_place, full_by, is_new, live_into, unkept_by}
 use Rattle.refusals.proofs.RowLaws.{enter_late, enter_unbroken, own_zero}
 use Rattle.refusals.proofs.ViewLaws.{few_elements}
 use Rattle.semantics.proofs.ViewLaws.{both}
@@ -127,9 +127,41 @@ size_whole v l nm into opens own size e a q = absurd (number_some e (sym q ∙ o
 
 -- ---- a call that is carried out
 
+-- what a field says of its name
+no_place : (into : Bool) (n : ℕ) → None ≡ cond (into && false) (Some n) None
+no_place true n = refl
+no_place false n = refl
+
+place_told : (into : Bool) (v : View) (l : Storage) (nm : Option Name) → field_place (field_of into v l nm) ≡ cond (live_into into v l nm) (Some (place_for v l nm)) None
+unfolding field_of
+place_told into v l none = no_place into _
+place_told into v l (some n) = go (held v l n) refl
+  where
+    go : (h : Bool) → held v l n ≡ h → field_place (field_of into v l (some n)) ≡ cond (live_into into v l (some n)) (Some (place_for v l (some n))) None
+    go true p = rw p refl
+    go false p = rw (p, and-false (is_open v)) (no_place into _)
+
+id_told : (into : Bool) (v : View) (l : Storage) (nm : Option Name) → field_id (field_of into v l nm) ≡ id_for v l nm
+unfolding field_of
+id_told into v l none = refl
+id_told into v l (some n) = go (held v l n) _
+  where
+    go : (h : Bool) {id : ℕ} (place : Optional ℕ) → field_id (cond h (Held id place) (Fresh id)) ≡ id
+    go true place = refl
+    go false place = refl
+
+fresh_told : (into : Bool) (v : View) (l : Storage) (nm : Option Name) → field_fresh (field_of into v l nm) ≡ is_new v l nm
+unfolding field_of
+fresh_told into v l none = refl
+fresh_told into v l (some n) = go (held v l n) _ _
+  where
+    go : (h : Bool) (id : ℕ) (place : Optional ℕ) → field_fresh (cond h (Held id place) (Fresh id)) ≡ not h
+    go true id place = refl
+    go false id place = refl
+
 field_told : Result Field Refusal → Field
 field_told (Ok f) = f
-field_told (Err e) = no_field
+field_told (Err e) = Unnamed
 
 module _ (v : View) (l : Storage) (nm : Option Name) (into opens : Bool) (own size : ℕ) {f : Field}
     (a : Decides (first (enter_rows v l nm into opens own size)) into v l nm (Ok f)) where
@@ -137,19 +169,23 @@ module _ (v : View) (l : Storage) (nm : Option Name) (into opens : Bool) (own si
   unfolding field_told
   field_lem = ap field_told (a.field (sym a.number))
 
+  place_lem : field_place f ≡ cond (live_into into v l nm) (Some (place_for v l nm)) None
+  place_lem = ap field_place field_lem ∙ place_told into v l nm
+
+  id_lem : field_id f ≡ id_for v l nm
+  id_lem = ap field_id field_lem ∙ id_told into v l nm
+
   clear : Clears v l nm into opens size
   clear = enter_clears v l nm into opens own size (sym a.number)
 
   abbrev put : Put
-  put = put_by (into && in_object v) f.place (ltb 0 v.inner.marks) v.counts.entries v.counts.undo
+  put = put_by (into && in_object v) (field_place f) (ltb 0 v.inner.marks) v.counts.entries v.counts.undo
 
   fresh_lem : fresh_put put ≡ ((into && in_object v) && not (live_into into v l nm))
-  unfolding field_of
-  fresh_lem = rw field_lem (fresh_by (into && in_object v) (live_into into v l nm) (ltb 0 v.inner.marks) (place_for v l nm) v.counts.entries v.counts.undo)
+  fresh_lem = rw place_lem (fresh_by (into && in_object v) (live_into into v l nm) (ltb 0 v.inner.marks) (place_for v l nm) v.counts.entries v.counts.undo)
 
   recorded_lem : recorded_put put ≡ (live_into into v l nm && ltb 0 v.inner.marks)
-  unfolding field_of
-  recorded_lem = rw field_lem (recorded_by (into && in_object v) (live_into into v l nm) (ltb 0 v.inner.marks) (place_for v l nm) v.counts.entries v.counts.undo)
+  recorded_lem = rw place_lem (recorded_by (into && in_object v) (live_into into v l nm) (ltb 0 v.inner.marks) (place_for v l nm) v.counts.entries v.counts.undo)
 
   -- the counts then are numbers of the machine
   pub used_bound : v.counts.value + size < 2 ^ 63
@@ -175,28 +211,26 @@ module _ (v : View) (l : Storage) (nm : Option Name) (into opens : Bool) (own si
       let b = clear.elements (both into (in_list v) t).1 in
       omega arith
 
-  module _ {b : MetadataBuilder} {text ends : List ℕ} {at elements : ℕ} {c : Counts} {u : Bool} {p : Put} (w : p ≡ put) (r : Registers f.new v.counts.dictionary l.text l.ends nm b text ends) (s : at ≡ inner_size v)
+  module _ {b : MetadataBuilder} {text ends : List ℕ} {at elements id : ℕ} {c : Counts} {u : Bool} {p : Put} (w : p ≡ put) (r : Registers (field_fresh f) v.counts.dictionary l.text l.ends nm b text ends) (s : at ≡ inner_size v)
       (k : c ≡ with_counts v.counts (v.counts.value + size) (one_more (fresh_put p) v.counts.entries) (one_more (recorded_put p) v.counts.undo) (one_more opens v.counts.depth) b)
-      (t : elements ≡ one_more (into && in_list v) v.elements) (m : u ≡ unique_now v) where
+      (t : elements ≡ one_more (into && in_list v) v.elements) (j : id ≡ field_id f) (m : u ≡ unique_now v) where
     abbrev entered : Entered
-    entered = record { counts = c; elements = elements; id = f.id; offset = at; put = p; unique = u }
+    entered = record { counts = c; elements = elements; id = id; offset = at; put = p; unique = u }
 
     named : Named v l nm b text ends
-    unfolding field_of
-    named = named_by nm (ap (λ (g : Field). g.new) field_lem) clear.names r
+    named = named_by nm (ap field_fresh field_lem ∙ fresh_told into v l nm) clear.names r
 
     -- its entry: a new one, a live name's, or none at the top level, in a list and for a register
-    puts : (entries_put entered l.entries ≡ cond into (entries_with v l nm) l.entries) × (parent_put entered l.entries ≡ cond into (parent_with v l nm) New)
-    unfolding field_of
+    puts : (entries_put entered l.entries ≡ cond into (entries_with v l nm) l.entries) × (parent_put entered l.entries ≡ cond into (parent_with v l nm) None)
     puts = go into (in_object v) (live_under v l nm) refl refl refl
       where
         go : (i o b : Bool) → into ≡ i → in_object v ≡ o → live_under v l nm ≡ b
-            → (entries_put entered l.entries ≡ cond into (entries_with v l nm) l.entries) × (parent_put entered l.entries ≡ cond into (parent_with v l nm) New)
-        go false o b i e q = (rw (w, field_lem, i), rw (w, field_lem, i))
-        go true true false i e q = (rw (w, field_lem, s, i, e, q, fresh_room v l nm (rw i at clear.entries) e q), rw (w, field_lem, i, e, q))
-        go true true true i e q = (rw (w, field_lem, s, i, e, q), rw (w, field_lem, i, e, q))
-        go true false true i e q = (rw (w, field_lem, s, i, e, q), rw (w, field_lem, i, e, q))
-        go true false false i e q = (rw (w, field_lem, i, e, q), rw (w, field_lem, i, e, q))
+            → (entries_put entered l.entries ≡ cond into (entries_with v l nm) l.entries) × (parent_put entered l.entries ≡ cond into (parent_with v l nm) None)
+        go false o b i e q = (rw (w, j, place_lem, id_lem, i), rw (w, j, place_lem, id_lem, i))
+        go true true false i e q = (rw (w, j, place_lem, id_lem, s, i, e, q, fresh_room v l nm (rw i at clear.entries) e q), rw (w, j, place_lem, id_lem, i, e, q))
+        go true true true i e q = (rw (w, j, place_lem, id_lem, s, i, e, q), rw (w, j, place_lem, id_lem, i, e, q))
+        go true false true i e q = (rw (w, j, place_lem, id_lem, s, i, e, q), rw (w, j, place_lem, id_lem, i, e, q))
+        go true false false i e q = (rw (w, j, place_lem, id_lem, i, e, q), rw (w, j, place_lem, id_lem, i, e, q))
 
     -- one entry more, where a value is entered
     counted_entries : one_more (fresh_put p) v.counts.entries ≡ cond into (count_with v l nm) v.counts.entries
@@ -215,15 +249,14 @@ module _ (v : View) (l : Storage) (nm : Option Name) (into opens : Bool) (own si
         go false i = rw (w, recorded_lem, i)
 
     records : undo_put entered l.entries l.undo ≡ cond into (undo_with v l nm) l.undo
-    unfolding field_of
     records = go into (in_object v) (live_under v l nm) (ltb 0 v.inner.marks) refl refl refl refl
       where
         go : (i o b g : Bool) → into ≡ i → in_object v ≡ o → live_under v l nm ≡ b → ltb 0 v.inner.marks ≡ g → undo_put entered l.entries l.undo ≡ cond into (undo_with v l nm) l.undo
-        go false o b g i e q h = rw (w, field_lem, i)
-        go true true false g i e q h = rw (w, field_lem, i, e, q)
-        go true false false g i e q h = rw (w, field_lem, i, e, q)
-        go true o true false i e q h = rw (w, field_lem, i, q, h)
-        go true o true true i e q h = rw (w, field_lem, i, q, h, record_room v l nm (rw i at clear.undo) q h)
+        go false o b g i e q h = rw (w, j, place_lem, id_lem, i)
+        go true true false g i e q h = rw (w, j, place_lem, id_lem, i, e, q)
+        go true false false g i e q h = rw (w, j, place_lem, id_lem, i, e, q)
+        go true o true false i e q h = rw (w, j, place_lem, id_lem, i, q, h)
+        go true o true true i e q h = rw (w, j, place_lem, id_lem, i, q, h, record_room v l nm (rw i at clear.undo) q h)
 
     pub enters : EntersBy v l nm into opens size (first (enter_rows v l nm into opens own size)) (Ok entered) text ends
     enters =

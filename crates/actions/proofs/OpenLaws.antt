@@ -8,7 +8,7 @@ use native.Mathlib.Omega.{arith}
 use borrow.Author.Tests.{eq-eqb, ne_eqb}
 use Rattle.encoding.specs.Rows.{first}
 use Rattle.metadata.specs.Names.{Name}
-use Rattle.semantics.specs.declared.ParentEntry.{ParentEntry}
+use Rattle.container.specs.declared.Entry.{Entry}
 use Rattle.semantics.specs.declared.Container.{Container}
 use Rattle.semantics.specs.declared.View.{View}
 use Rattle.semantics.specs.Record.{Storage, open_in, register, storage_of}
@@ -21,7 +21,7 @@ use Rattle.actions.specs.declared.Moved.{Moved}
 use Rattle.actions.specs.declared.Opened.{Opened}
 use Rattle.actions.specs.Actions.{EntersBy, Leaves, Opens, child_of, entries_put, moved_by, parent_put, undo_put}
 use Rattle.actions.proofs.EnterLaws.{refuses}
-use Rattle.std.specs.Prelude.{Result, Ok, Err}
+use Rattle.std.specs.Prelude.{Result, Ok, Err, Option as Optional}
 use Rattle.semantics.specs.declared.refusal.Refusal.{Refusal}
 use Rattle.semantics.proofs.RefusalLaws.{number_some}
 
@@ -51,7 +51,7 @@ module _ {v : View} {l : Storage} {nm : Option Name} (object : Bool) where
       let z = ne_eqb (number_of v l (open_in nm object)) 0 (λ p. number_some e (n ∙ p)) in
       rw (q, i) (record { number = n; opened = λ p. absurd (number_some e (n ∙ p)); storage = rw (a.text_left, a.ends_left, open_number v l nm object, z) })
 
-  pub opens : {e : Entered} {text ends entries undo : List ℕ} {p : ParentEntry} {k : Container} → EntersBy v l nm true true 0 (first (enter_rows v l nm true true 0 0)) (Ok e) text ends
+  pub opens : {e : Entered} {text ends entries undo : List ℕ} {p : Optional Entry} {k : Container} → EntersBy v l nm true true 0 (first (enter_rows v l nm true true 0 0)) (Ok e) text ends
       → (p ≡ parent_put e l.entries) × (entries ≡ entries_put e l.entries) × (undo ≡ undo_put e l.entries l.undo) → k ≡ child_of v.counts e p object
       → Opens v l nm object (Ok (record { counts = e.counts; elements = e.elements; container = k })) (storage_of l.value text ends entries undo)
   unfolding new_container opened

@@ -9,14 +9,13 @@ use borrow.Author.Tests.{ltb-true, not-false}
 use Rattle.encoding.specs.Rows.{first}
 use Rattle.metadata.specs.declared.MetadataBuilder.{MetadataBuilder}
 use Rattle.metadata.specs.Calls.{from_parts}
-use Rattle.semantics.specs.declared.ParentEntry.{ParentEntry}
-use Rattle.semantics.specs.declared.ParentEntry.TheVariants.{New, Replaced}
+use Rattle.container.specs.declared.Entry.{Entry}
 use Rattle.semantics.specs.declared.View.{View}
 use Rattle.semantics.specs.Record.{Storage, roll_back, is_open, storage_of}
 use Rattle.semantics.specs.Damage.{damaged, misread}
 use Rattle.semantics.specs.Table.{number_of}
 use Rattle.semantics.specs.Step.{count_back, entries_back, rolled_back, undo_back, with_counts}
-use Rattle.std.specs.Prelude.{Option as Optional, None, Result, Ok, Err}
+use Rattle.std.specs.Prelude.{Option as Optional, None, Result, Ok, Err, Some}
 use Rattle.semantics.specs.declared.refusal.Refusal.{Refusal}
 use Rattle.refusals.specs.Decide.{Backs, place_back}
 use Rattle.refusals.proofs.ViewLaws.{past}
@@ -31,9 +30,9 @@ rollback_open v l {n} e q =
     let b = past v.counts.finished 1 _ a.1 in
     omega (arith, ltb-true 0 v.counts.depth (not-false o (past (not o) 2 _ b.1).0))
 
-undone_back : (v : View) (l : Storage) (p : ParentEntry) → entries_undone l.entries (place_back v l p) p ≡ entries_back v l p
-undone_back v l New = refl
-undone_back v l (Replaced id offset) = refl
+undone_back : (v : View) (l : Storage) (p : Optional Entry) → entries_undone l.entries (place_back v l p) p ≡ entries_back v l p
+undone_back v l None = refl
+undone_back v l (Some former) = refl
 
 place_told : Result (Optional ℕ) Refusal → Optional ℕ
 place_told (Ok p) = p

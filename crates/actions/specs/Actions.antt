@@ -1,16 +1,12 @@
 -- What a call over pieces of the record gives back and leaves behind, by the definitions of `semantics`; and, for the code, the parts
 -- that calls share.
-use Rattle.std.specs.Prelude.{◌≡◌, Bool, true, false, cond, not, ◌&&◌, List, [], ℕ, ◌+◌, ◌-◌, ◌*◌, eqb, leb, ltb, length, set, is_some, Option as Optional, Some, None, Result, Ok, Err, IfOk}
+use Rattle.std.specs.Prelude.{◌≡◌, Bool, true, false, cond, not, ◌&&◌, List, [], ℕ, ◌+◌, ◌-◌, ◌*◌, eqb, leb, ltb, length, set, is_some, Option as Optional, Some, None, Result, Ok, IfOk}
 use Rattle.std.proofs.Math.Option.{Option, none, some}
-use Rattle.encoding.specs.Rows.{Row, first}
 use Rattle.encoding.specs.Slices.{write}
-use Rattle.value.specs.declared.variant.Variant.{Variant}
-use Rattle.value.specs.declared.variant.VariantBytes.{VariantBytes}
-use Rattle.value.specs.Decimal.{out_of_range}
-use Rattle.value.specs.Scalar.{ill_formed, scalar_bytes, stored_bytes, stored_variant}
 use Rattle.metadata.specs.declared.MetadataBuilder.{MetadataBuilder}
 use Rattle.metadata.specs.Names.{Name, field_names, text_size}
 use Rattle.metadata.specs.Calls.{added, from_parts, has_room}
+use Rattle.container.specs.declared.Entry.{Entry}
 use Rattle.container.specs.declared.Frame.{Frame}
 use Rattle.container.specs.Entries.{entry_at, room_for, set_entry}
 use Rattle.container.specs.Undo.{undone_in}
@@ -19,14 +15,11 @@ use Rattle.list.specs.Close.{damaged as damaged_list}
 use Rattle.semantics.specs.declared.Counts.{Counts}
 use Rattle.semantics.specs.declared.Mark.{Mark}
 use Rattle.semantics.specs.declared.Container.{Container}
-use Rattle.semantics.specs.declared.ParentEntry.{ParentEntry}
-use Rattle.semantics.specs.declared.ParentEntry.TheVariants.{New, Replaced}
 use Rattle.semantics.specs.declared.View.{View}
 use Rattle.semantics.specs.declared.refusal.Refusal.{Refusal}
-use Rattle.semantics.specs.declared.refusal.Refusal.TheVariants as refusal
 use Rattle.semantics.specs.Refusal.{number_told}
-use Rattle.semantics.specs.Record.{Storage, Scalars, Call, register, append, open_in, close, roll_back, uniqueness, set_mark, return_to, finish, no_mark, scalar_of, in_list, unique_now}
-use Rattle.semantics.specs.Table.{header, number_of, scalar_rows}
+use Rattle.semantics.specs.Record.{Storage, Call, register, append, open_in, close, roll_back, uniqueness, set_mark, return_to, finish, no_mark, in_list, unique_now}
+use Rattle.semantics.specs.Table.{header, number_of}
 use Rattle.semantics.specs.Step.{carried_out, count_with, dictionary_of, dictionary_with, ends_with, entries_closed, entries_with, finished, new_container, new_mark, parent_with, text_with, undo_count_with, undo_with, with_counts, with_marks, with_unique}
 use Rattle.actions.specs.declared.Moved.{Moved}
 use Rattle.actions.specs.declared.Opened.{Opened}
@@ -42,9 +35,9 @@ abbrev pub one_more : Bool → ℕ → ℕ
 one_more more n = cond more (n + 1) n
 
 -- a parent's elements when a child of it is rolled back: a list's are one less for a new one
-abbrev pub siblings_back : Bool → ℕ → ParentEntry → ℕ
-siblings_back object n New = cond (not object) (n - 1) n
-siblings_back object n (Replaced id offset) = n
+abbrev pub siblings_back : Bool → ℕ → Optional Entry → ℕ
+siblings_back object n None = cond (not object) (n - 1) n
+siblings_back object n (Some former) = n
 
 -- how many elements the container has that is innermost after a call, of those in the record by `elements_after` (`elements_left_lem`,
 -- proofs/ElementLaws)
@@ -154,12 +147,12 @@ put_entries (Live place r) id offset es = set es (2 * place + 1) offset
 abbrev pub entries_put : Entered → List ℕ → List ℕ
 entries_put e es = put_entries e.put e.id e.offset es
 
-abbrev pub put_parent : Put → ℕ → List ℕ → ParentEntry
-put_parent Nothing id es = New
-put_parent (Fresh place) id es = New
-put_parent (Live place r) id es = Replaced id (entry_at es place).offset
+abbrev pub put_parent : Put → ℕ → List ℕ → Optional Entry
+put_parent Nothing id es = None
+put_parent (Fresh place) id es = None
+put_parent (Live place r) id es = Some (record { id = id; offset = (entry_at es place).offset })
 
-abbrev pub parent_put : Entered → List ℕ → ParentEntry
+abbrev pub parent_put : Entered → List ℕ → Optional Entry
 parent_put e es = put_parent e.put e.id es
 
 -- the undo record of a replaced entry, as it is put
@@ -188,7 +181,7 @@ pub record EnteredBy (v : View) (l : Storage) (nm : Option Name) (into opens : B
   pub unique : e.unique ≡ unique_now v
   pub entries : entries_put e l.entries ≡ cond into (entries_with v l nm) l.entries
   pub undo : undo_put e l.entries l.undo ≡ cond into (undo_with v l nm) l.undo
-  pub parent : parent_put e l.entries ≡ cond into (parent_with v l nm) New
+  pub parent : parent_put e l.entries ≡ cond into (parent_with v l nm) None
 
 -- of number n
 pub record EntersBy (v : View) (l : Storage) (nm : Option Name) (into opens : Bool) (size n : ℕ) (r : Result Entered Refusal) (text ends : List ℕ) : Type 0 where
@@ -200,30 +193,8 @@ pub record EntersBy (v : View) (l : Storage) (nm : Option Name) (into opens : Bo
 abbrev pub moved_by : Entered → Moved
 moved_by e = record { counts = e.counts; elements = e.elements }
 
--- what is stored for a scalar with these rows of its own, where no test of theirs holds
-pub record OwnBy (rows : List Row) (x : Variant) (r : Result Variant Refusal) : Type 0 where
-  pub number : number_told r ≡ first rows
-  pub variant : first rows ≡ 0 → r ≡ Ok x
-
--- a scalar that is stored as this one, or has this refusal of its own
-pub record StoredAs (s : Scalars) (r : Result Variant Refusal) : Type 0 where
-  pub number : number_told r ≡ first (scalar_rows s)
-  pub scalar : (x : Variant) → r ≡ Ok x → scalar_of s ≡ stored_variant x
-
--- the bytes that it takes
-abbrev pub size_by : Result Variant Refusal → Result ℕ Refusal
-size_by (Ok x) = Ok (length (scalar_bytes (stored_variant x)))
-size_by (Err r) = Err r
-
--- of a scalar of fixed size, and of text or binary, with the rows 7 and 8
-abbrev pub value_by : Variant → Result Variant Refusal
-value_by x = cond (out_of_range x) (Err refusal.OutOfRange) (Ok x)
-
-abbrev pub bytes_by : VariantBytes → List ℕ → Result ℕ Refusal
-bytes_by k bs = cond (ill_formed k bs) (Err refusal.IllFormed) (Ok (length (scalar_bytes (stored_bytes k bs))))
-
 -- the container that opens, of the counts before and what was entered
-abbrev pub child_of : Counts → Entered → ParentEntry → Bool → Container
+abbrev pub child_of : Counts → Entered → Optional Entry → Bool → Container
 child_of c e p object =
     record { value = c.value; names = field_names c.dictionary; text = text_size c.dictionary; entries = e.counts.entries; undo = e.counts.undo; parent = p; object = object; unique = e.unique; marks = 0 }
 
@@ -244,10 +215,10 @@ pub record Fronts (v : View) (l : Storage) (r : Closed) (value entries : List �
   pub entries_left : entries ≡ cond (eqb (closed_number r) 0) (entries_closed v l) l.entries
 
 -- ---- a parent's entry undone: the former offset, at its place
-abbrev pub entries_undone : List ℕ → Optional ℕ → ParentEntry → List ℕ
+abbrev pub entries_undone : List ℕ → Optional ℕ → Optional Entry → List ℕ
 entries_undone es None p = es
-entries_undone es (Some place) New = es
-entries_undone es (Some place) (Replaced id offset) = set es (2 * place + 1) offset
+entries_undone es (Some place) None = es
+entries_undone es (Some place) (Some former) = set es (2 * place + 1) former.offset
 
 -- ---- a return: the counts of the mark, and its entries, as the code has them for any mark
 abbrev pub counts_at : Counts → Mark → Counts

@@ -5,7 +5,6 @@ ghost use Rattle.refusals.specs.Decide.{storage_in};
 ghost use Rattle.actions.specs.Actions.{Ends};
 
 use crate::Ended;
-use metadata::{FinishError, Names};
 use refusals::Seen;
 use semantics::{Counts, Refusal};
 
@@ -14,20 +13,12 @@ pub fn finish_over(s: &Seen, out: &mut [u8]) -> Result<Ended, Refusal>
 {
     s.may_finish()?;
     let c = s.view.counts;
-    let names = Names {
-        counts: c.dictionary,
-        text: s.text,
-        ends: s.ends,
-    };
-    match names.finish(c.floor, out) {
-        Err(FinishError::Damaged) => Err(Refusal::Damaged),
-        Err(FinishError::NoRoom) => Err(Refusal::OutputFull),
-        Ok(written) => Ok(Ended {
-            counts: Counts {
-                finished: true,
-                ..c
-            },
-            written,
-        }),
-    }
+    let written = s.names().finish(c.floor, out)?;
+    Ok(Ended {
+        counts: Counts {
+            finished: true,
+            ..c
+        },
+        written,
+    })
 }

@@ -1,5 +1,6 @@
 // The innermost container closed: `ListBuilder::finish` and `ObjectBuilder::finish` of the Rust.
 // Derived from parquet-variant 60.1.0, src/builder/list.rs and src/builder/object.rs (see NOTICE). Changed: written in Rattle.
+// Kept (5b; project rule): a public call may not ask more of its callers: one struct of `&mut` would ask it for slices that it only reads.
 ghost use Rattle.std.specs.Prelude.{◌≡◌, List, ℕ, ◌-◌};
 ghost use Rattle.container.specs.Layout.{largest};
 ghost use Rattle.container.specs.Entries.{entries_of, ids_of};
@@ -8,7 +9,7 @@ ghost use Rattle.actions.specs.Actions.{Fronts, Leaves};
 
 use crate::Moved;
 use container::{CloseError, Frame, close_object};
-use list::close_list;
+use list::{ListFrame, close_list};
 use metadata::Names;
 use refusals::Seen;
 use semantics::{Counts, Refusal, View};
@@ -34,20 +35,17 @@ pub fn close_over(
     };
     let most = s.may_close()?;
     let c = v.counts;
-    match put_header(v, most, value, text, ends, entries) {
-        Ok(used) => Ok(Moved {
-            counts: Counts {
-                value: used,
-                entries: v.inner.entries,
-                undo: v.inner.undo,
-                depth: c.depth - 1,
-                ..c
-            },
-            elements: v.siblings,
-        }),
-        Err(CloseError::Damaged) => Err(Refusal::Damaged),
-        Err(CloseError::NoRoom) => Err(Refusal::NoRoom),
-    }
+    let used = put_header(v, most, value, text, ends, entries)?;
+    Ok(Moved {
+        counts: Counts {
+            value: used,
+            entries: v.inner.entries,
+            undo: v.inner.undo,
+            depth: c.depth - 1,
+            ..c
+        },
+        elements: v.siblings,
+    })
 }
 
 // Of an object its fields, sorted, where `most` is the largest id; of a list its data walked.
@@ -79,12 +77,13 @@ fn put_header(
         };
         close_object(f, most, names, value, entries)
     } else {
-        close_list(
-            v.inner.value,
-            v.counts.value,
-            v.elements,
-            v.counts.floor,
-            value,
-        )
+        let c = v.counts;
+        let f = ListFrame {
+            start: v.inner.value,
+            used: c.value,
+            count: v.elements,
+            floor: c.floor,
+        };
+        close_list(f, value)
     }
 }

@@ -32,15 +32,13 @@ mod own;
 mod undo;
 mod unique;
 
-pub use append::{
-    append_bytes_over, append_civil_over, append_packed_over, append_uuid_over, append_value_over,
-};
+pub use append::append_over;
 pub use dictionary::finish_over;
 pub use enter::{Entered, Put, enter_over, note};
 pub use header::close_over;
 pub use mark::{mark_over, return_over};
 pub use open::{child, open_over, register};
-pub use own::{bytes_own, civil_own, packed_own, stored_size, value_own};
+pub use own::{Packed, Scalar, size_of};
 use semantics::{Container, Counts, Mark};
 pub use undo::rollback_over;
 pub use unique::unique_over;

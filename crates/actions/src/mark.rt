@@ -1,7 +1,8 @@
 // Marks in the innermost container, and the return to one. Where the marks that are set stand is seen by the crates above.
+// Kept (5b; project rule): a public call may not ask more of its callers: one struct of `&mut` would ask it for slices that it only reads.
 ghost use Rattle.std.specs.Prelude.{◌≡◌, List, ℕ};
 ghost use Rattle.semantics.specs.Record.{storage_of};
-ghost use Rattle.semantics.specs.Step.{new_mark, with_marks};
+ghost use Rattle.semantics.specs.Step.{with_marks};
 ghost use Rattle.refusals.specs.Decide.{storage_in};
 ghost use Rattle.actions.specs.Actions.{Returns, SetsMark, counts_at, entries_at};
 
@@ -10,7 +11,7 @@ use crate::{Marked, Returned};
 use container::undo_entries;
 use metadata::MetadataBuilder;
 use refusals::Seen;
-use semantics::{Container, Counts, Mark, Refusal, View};
+use semantics::{Container, Counts, Mark, Refusal, View, mark_now};
 
 // One mark more: the mark, and the innermost container with it.
 pub fn mark_over(s: &Seen) -> Result<Marked, Refusal>
@@ -20,24 +21,8 @@ pub fn mark_over(s: &Seen) -> Result<Marked, Refusal>
     let k = s.view.inner;
     Ok(Marked {
         container: with_marks(k, k.marks + 1),
-        mark: new_mark(s.view),
+        mark: mark_now(s.view.counts, s.view.elements, k.unique),
     })
-}
-
-// What a mark holds now.
-fn new_mark(v: &View) -> Mark
-    ensures { result ≡ new_mark v.now }
-{
-    let c = v.counts;
-    Mark {
-        value: c.value,
-        names: c.dictionary.num_field_names(),
-        text: c.dictionary.metadata_size(),
-        entries: c.entries,
-        undo: c.undo,
-        count: v.elements,
-        unique: v.inner.unique,
-    }
 }
 
 #[tactic(auto, unfolding(semantics::specs::Step::with_marks))]
@@ -100,11 +85,9 @@ fn undo_to(v: View, p: Mark, entries: &mut [usize], undo: &[usize])
     if v.inner.object {
         undo_entries(
             entries,
-            v.inner.entries,
-            p.entries,
+            v.inner.entries..p.entries,
             undo,
-            p.undo,
-            v.counts.undo,
+            p.undo..v.counts.undo,
         );
     }
 }

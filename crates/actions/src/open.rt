@@ -1,6 +1,7 @@
 // Names registered, and containers opened.
 // Derived from `add_field_name`, `try_new_list` and `try_new_object` of parquet-variant 60.1.0, src/builder.rs and
 // src/builder/object.rs (see NOTICE). Changed: written in Rattle, a child is a container of the same record.
+// Kept (5b; project rule): a public call may not ask more of its callers: one struct of `&mut` would ask it for slices that it only reads.
 ghost use Rattle.std.specs.Prelude.{◌≡◌};
 ghost use Rattle.semantics.specs.Record.{storage_of};
 ghost use Rattle.semantics.specs.Record.{register as register_of};
@@ -9,7 +10,9 @@ ghost use Rattle.actions.specs.Actions.{Leaves, Opens, child_of};
 
 use crate::enter::{Entered, enter_over, note};
 use crate::{Moved, Opened};
-use semantics::{Container, Counts, ParentEntry, Refusal, View};
+use container::Entry;
+use refusals::Entering;
+use semantics::{Container, Counts, Refusal, View};
 
 pub fn register(
     v: View,
@@ -31,13 +34,13 @@ pub fn register(
         entries,
         undo,
         Some(name),
-        false,
-        false,
+        Entering::Register,
         Ok(0),
     )?;
     Ok(e.moved())
 }
 
+// Kept (1c; no plainer): `object` is which of the two kinds opens, and goes into the container as it is given.
 pub fn open_over(
     v: View,
     value: &[u8],
@@ -52,7 +55,17 @@ pub fn open_over(
         (name_in name.entry) object result
         (storage_of value.now text.new ends.new entries.new undo.new) }
 {
-    let e = enter_over(v, value, text, ends, entries, undo, name, true, true, Ok(0))?;
+    let e = enter_over(
+        v,
+        value,
+        text,
+        ends,
+        entries,
+        undo,
+        name,
+        Entering::Open,
+        Ok(0),
+    )?;
     let p = note(e, entries, undo);
     Ok(Opened {
         counts: e.counts,
@@ -62,7 +75,8 @@ pub fn open_over(
 }
 
 // The container that opens: its starting marks are the counts before its own name, and of entries and undo records those after its own.
-pub fn child(before: Counts, e: Entered, parent: ParentEntry, object: bool) -> Container
+// Kept (1c; no plainer): as `open_over`.
+pub fn child(before: Counts, e: Entered, parent: Option<Entry>, object: bool) -> Container
     ensures { result ≡ child_of before e parent object }
 {
     Container {

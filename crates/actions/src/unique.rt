@@ -9,6 +9,7 @@ ghost use Rattle.actions.specs.Actions.{SetsUnique};
 use refusals::Seen;
 use semantics::{Container, Refusal};
 
+// Kept (1c; no plainer): the mark is the caller's yes or no, and is kept as it is given.
 pub fn unique_over(s: &Seen, unique: bool) -> Result<Container, Refusal>
     ensures { SetsUnique s.now.view.now (storage_in s.now) unique result }
 {
@@ -16,6 +17,7 @@ pub fn unique_over(s: &Seen, unique: bool) -> Result<Container, Refusal>
     Ok(with_unique(s.view.inner, unique))
 }
 
+// Kept (1c, 2; no plainer): one field put, as `with_marks` puts another; the type of each says what may be put.
 #[tactic(auto, unfolding(semantics::specs::Step::with_unique))]
 pub(crate) fn with_unique(k: Container, unique: bool) -> Container
     ensures { result ≡ with_unique k unique }

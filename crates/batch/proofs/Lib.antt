@@ -5,3 +5,4 @@ pub mod ReadingLaws
 pub mod ContentsLaws
 pub mod BatchLaws
 pub mod ExamplesHold
+pub mod NamedLaws

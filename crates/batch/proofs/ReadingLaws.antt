@@ -1,16 +1,15 @@
 -- Reading: one step by places is one step of the definition.
 use mathlib.Core.Path.{◌≡◌, refl, sym, ◌∙◌, ap}
 use mathlib.Core.Bool.{Bool, true, false, cond, ◌||◌, true≢false}
-use mathlib.Core.List.{List, []}
-use Prim.Native.Nat.{ℕ, ◌+◌, ◌-◌, ◌≤◌, ◌<◌, max}
+use mathlib.Core.List.{List}
+use Prim.Native.Nat.{ℕ, ◌+◌, ◌-◌, ◌≤◌, ◌<◌, max, min}
 use native.Mathlib.Omega.{arith}
-use lib.Dec.{ltb}
-use borrow.Author.Tests.{lt-ltb, le-ltb, le-leb, lt-leb, leb-true, ltb-false}
-use lib.ListN.{length, take, drop, length-take, length-drop}
-use lib.Seq.{drop-drop, take-take}
+use lib.Dec.{ltb, leb}
+use borrow.Author.Tests.{lt-ltb, le-ltb, leb-true, leb-false, ltb-false}
+use lib.ListN.{length, take, drop, length-take, length-drop, drop_of_length-le}
+use lib.Seq.{take_all}
 use Rattle.encoding.specs.Rows.{first, order, in_order}
-use Rattle.std.specs.Prelude.{Result, Ok, Err}
-use Rattle.batch.specs.declared.NoBatch.{NoBatch}
+use Rattle.std.specs.Prelude.{Ok, Err}
 use Rattle.batch.specs.declared.Step.{Step}
 use Rattle.batch.specs.declared.Step.TheVariants.{Whole, Bad, Tail}
 use Rattle.batch.specs.Layout.{big_number}
@@ -28,45 +27,40 @@ read_in_order file = refl
 pub length_body : (bs : List ℕ) → 4 + count_at bs ≤ length bs → length (body_of bs) ≡ count_at bs
 length_body bs h = simp (length-take, length-drop) (omega arith)
 
-module _ (file : List ℕ) (at : ℕ) where
-  left : length (drop at file) ≡ length file - at
-  left = length-drop at file
+-- the bytes from a place on, as the code cuts them
+pub left_is : (file : List ℕ) (at : ℕ) {m : ℕ} → m ≡ min at (length file) → take (length file - m) (drop m file) ≡ drop at file
+left_is file at {m} e = take_all (length file - m) (drop m file) (omega (arith, length-drop m file)) ∙ go (leb at (length file)) refl
+  where
+    go : (t : Bool) → leb at (length file) ≡ t → drop m file ≡ drop at file
+    go true q = let h : m ≡ at = omega (arith, leb-true at (length file) q) in rw h
+    go false q =
+        let h = leb-false at (length file) q in
+        drop_of_length-le file (omega arith) ∙ sym (drop_of_length-le file (omega arith))
 
-  pub size_there : 4 ≤ count_at (drop at file) → size_in (body_of (drop at file)) ≡ big_number (take 4 (drop (at + 4) file))
-  size_there h = rw (take-take 4 (count_at (drop at file)) (drop 4 (drop at file)) h, drop-drop)
+pub step_tail : (file : List ℕ) (at : ℕ) {left : List ℕ} → left ≡ drop at file → present left ≡ false → Tail (length left) ≡ step_from file at
+unfolding step_from
+step_tail file at e p = rw (← e, p)
 
-  pub present_there : {l n : ℕ} → l ≡ length file - at → n ≡ count_at (drop at file) → 4 ≤ l → n ≤ l - 4 → present (drop at file) ≡ true
-  present_there e c h k = let g = left in le-leb (4 + count_at (drop at file)) (length (drop at file)) (omega arith)
+-- a record wholly present, by its body
+module _ (file : List ℕ) (at : ℕ) {left body : List ℕ} (e : left ≡ drop at file) (q : (present left ≡ true) × (body ≡ body_of left)) where
+  counted : length body ≡ count_at left
+  counted = ap length q.1 ∙ length_body left (leb-true (4 + count_at left) (length left) q.0)
 
-  pub step_tail : {l : ℕ} → l ≡ length file - at → l < 4 + count_at (drop at file) → Tail l ≡ step_from file at
+  pub step_bad_count : length body < 4 → Bad (at + (4 + length body)) ≡ step_from file at
   unfolding step_from
-  step_tail e h = let g = left in rw (lt-leb (4 + count_at (drop at file)) (length (drop at file)) (omega arith)) (ap Tail (e ∙ sym g))
+  step_bad_count h = rw (← e, q.0, ← q.1, lt-ltb (length body) 4 h, counted)
 
-  pub step_bad_count : {n : ℕ} → present (drop at file) ≡ true → n ≡ count_at (drop at file) → n < 4 → Bad (at + (4 + n)) ≡ step_from file at
-  unfolding step_from
-  step_bad_count p c h =
-      let b = length_body (drop at file) (leb-true (4 + count_at (drop at file)) (length (drop at file)) p) in
-      rw (p, lt-ltb (length (body_of (drop at file))) 4 (omega arith), c)
+  module _ {size : ℕ} {parts : List ℕ} (s : (4 ≤ length body) × (size ≡ big_number (take 4 body)) × (parts ≡ drop 4 body)) where
+    left_over : length parts ≡ length body - 4
+    left_over = ap length s.2 ∙ length-drop 4 body
 
-  pub step_bad_size : {n m : ℕ} → present (drop at file) ≡ true → n ≡ count_at (drop at file) → 4 ≤ n
-      → m ≡ big_number (take 4 (drop (at + 4) file)) → n - 4 < m → Bad (at + (4 + n)) ≡ step_from file at
-  unfolding step_from
-  step_bad_size p c h s k =
-      let b = length_body (drop at file) (leb-true (4 + count_at (drop at file)) (length (drop at file)) p) in
-      let i = size_there (omega arith) in
-      let f = le-ltb (length (body_of (drop at file))) 4 (omega arith) in
-      let g = lt-ltb (length (body_of (drop at file)) - 4) (size_in (body_of (drop at file))) (omega arith) in
-      rw (p, f, g, c)
+    pub step_bad_size : length parts < size → Bad (at + (4 + length body)) ≡ step_from file at
+    unfolding step_from
+    step_bad_size h = rw (← e, q.0, ← q.1, ← s.1, le-ltb (length body) 4 s.0, lt-ltb (length body - 4) size (omega (arith, left_over)), counted)
 
-  pub step_whole : {n m : ℕ} → present (drop at file) ≡ true → n ≡ count_at (drop at file) → 4 ≤ n
-      → m ≡ big_number (take 4 (drop (at + 4) file)) → m ≤ n - 4 → Whole (at + 8) (at + (8 + m)) (at + (4 + n)) ≡ step_from file at
-  unfolding step_from
-  step_whole p c h s k =
-      let b = length_body (drop at file) (leb-true (4 + count_at (drop at file)) (length (drop at file)) p) in
-      let i = size_there (omega arith) in
-      let f = le-ltb (length (body_of (drop at file))) 4 (omega arith) in
-      let g = le-ltb (length (body_of (drop at file)) - 4) (size_in (body_of (drop at file))) (omega arith) in
-      rw (p, f, g, c, s ∙ sym i)
+    pub step_whole : size ≤ length parts → Whole (at + 8) (at + (8 + size)) (at + (4 + length body)) ≡ step_from file at
+    unfolding step_from
+    step_whole h = rw (← e, q.0, ← q.1, ← s.1, le-ltb (length body) 4 s.0, le-ltb (length body - 4) size (omega (arith, left_over)), counted)
 
 -- ---- a step
 

@@ -1,23 +1,23 @@
 -- Writing: the rows in order, and what the calls leave.
 use mathlib.Core.Path.{◌≡◌, refl, sym, ◌∙◌}
-use mathlib.Core.Bool.{Bool, true, false, not, ◌&&◌, ◌||◌, and-eq-true_iff, true≢false}
+use mathlib.Core.Bool.{true, false, not}
 use mathlib.Core.List.{List, [], ◌∷◌, ◌++◌, append_assoc, append-nil}
 use Prim.Native.Nat.{ℕ, zero, suc, ◌+◌, ◌-◌, ◌^◌, ◌≤◌, ◌<◌}
 use native.Mathlib.Omega.{arith}
-use lib.Dec.{leb, ltb, eqb}
-use borrow.Author.Tests.{lt-ltb, le-ltb, le-leb, lt-leb, eq-eqb, ne_eqb, ltb-true, leb-true, ltb-false, leb-false}
-use lib.ListN.{length, take, drop, get_or, set, length-append, length-take, length-drop, drop_of_length-le}
+use lib.Dec.{eqb}
+use borrow.Author.Tests.{lt-ltb, le-ltb, le-leb, lt-leb, eq-eqb, ne_eqb}
+use lib.ListN.{length, take, drop, get_or, set, length-append, drop_of_length-le}
 use lib.Seq.{drop-drop, take_at, drop_at}
 use Rattle.encoding.specs.Rows.{first, order, in_order}
-use Rattle.encoding.specs.Slices.{Placed, write, counted, fits, Writes}
+use Rattle.encoding.specs.Slices.{write}
 use Rattle.encoding.specs.declared.slices.NoRoom as refused
 use Rattle.std.specs.Prelude.{Ok, Err}
-use Rattle.encoding.proofs.SliceLaws.{left_done, write_one}
+use Rattle.encoding.proofs.SliceLaws.{write_one}
 use Rattle.std.specs.Prelude.{Ok, Err}
 use Rattle.batch.specs.declared.AddError.{AddError}
 use Rattle.batch.specs.declared.AddError.TheVariants.{Damaged, NoBatch, NoRoom}
-use Rattle.batch.specs.Layout.{Record, record_of, count_of, big_endian, record_bytes, records_bytes, batch_bytes}
-use Rattle.batch.specs.Writing.{no_batch, start_rows, Starts, add_rows, added_number, added_at, Adds}
+use Rattle.batch.specs.Layout.{Record, count_of, record_bytes, records_bytes, batch_bytes}
+use Rattle.batch.specs.Writing.{no_batch, start_rows, Starts, add_rows, added_number, Adds}
 use Rattle.batch.proofs.NumberLaws.{length_big}
 
 -- ---- the rows in the table's order

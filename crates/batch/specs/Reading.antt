@@ -1,5 +1,6 @@
 -- Document 02, A7: what reading gives, of any bytes.
-use Rattle.std.specs.Prelude.{Bool, false, cond, ◌||◌, List, [], ◌∷◌, ℕ, zero, suc, ◌+◌, ◌-◌, max, leb, ltb, length, take, drop, Result, Ok, Err}
+use Rattle.std.specs.Prelude.{Bool, true, false, cond, ◌||◌, List, [], ◌∷◌, ℕ, zero, suc, ◌+◌, ◌-◌, max, leb, ltb, length, take, drop}
+use Rattle.std.specs.Prelude.{Result, Ok, Err}
 use Rattle.encoding.specs.Rows.{Row, row}
 use Rattle.batch.specs.declared.NoBatch.{NoBatch}
 use Rattle.batch.specs.declared.Step.{Step}
@@ -126,6 +127,13 @@ value_in file (Ok (step.Whole dictionary value next)) = part value next file
 value_in file (Ok (step.Bad next)) = []
 value_in file (Ok (step.Tail size)) = []
 value_in file (Err e) = []
+
+-- a step names parts where a whole record stands
+abbrev pub is_whole : Result Step NoBatch → Bool
+is_whole (Ok (step.Whole dictionary value next)) = true
+is_whole (Ok (step.Bad next)) = false
+is_whole (Ok (step.Tail size)) = false
+is_whole (Err e) = false
 
 -- ---- steps, one after the other
 

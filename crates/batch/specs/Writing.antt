@@ -1,5 +1,6 @@
 -- Document 02, A7: "The writer starts a file, or adds a record behind the used bytes of one."
-use Rattle.std.specs.Prelude.{◌≡◌, Bool, true, cond, not, ◌||◌, List, [], ◌∷◌, ℕ, ◌+◌, ◌^◌, eqb, leb, ltb, length, take, Result, Ok, Err}
+use Rattle.std.specs.Prelude.{◌≡◌, Bool, true, cond, not, ◌||◌, List, [], ◌∷◌, ℕ, ◌+◌, ◌^◌, eqb, leb, ltb, length, take}
+use Rattle.std.specs.Prelude.{Result, Ok, Err}
 use Rattle.encoding.specs.Rows.{Row, row, first}
 use Rattle.encoding.specs.Slices.{Placed, placed_number, write}
 use Rattle.batch.specs.declared.AddError.{AddError}

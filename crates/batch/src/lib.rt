@@ -9,7 +9,7 @@ ghost use Rattle.batch.specs.declared.AddError.TheVariants as add_error;
 mod reading;
 mod writing;
 
-pub use reading::{dictionary_at, record_at, value_at};
+pub use reading::{parts_at, record_at};
 pub use writing::{add, start};
 
 // The bytes are no batch: there are none, or they are of another version.
@@ -34,6 +34,7 @@ impl From<NoBatch> for AddError {
 
 // What stands at a place of a file. A whole record's dictionary lies from `dictionary` up to `value`, its value from there up to `next`, where
 // the next record begins; of a bad record only that place is known; a tail has so many bytes.
+// Kept (1a; no plainer): no success beside a refusal, but three things that reading finds.
 #[derive(Clone, Copy, PartialEq, Eq, Debug)]
 pub enum Step {
     Whole {

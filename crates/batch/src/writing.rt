@@ -11,7 +11,7 @@ use encoding::slices::NoRoom;
 pub fn start(file: &mut [u8]) -> Result<(), NoRoom>
     ensures { Starts file.old result file.new }
 {
-    if file.len() == 0 {
+    if file.is_empty() {
         return Err(NoRoom);
     }
     file[0] = 1;
@@ -19,6 +19,7 @@ pub fn start(file: &mut [u8]) -> Result<(), NoRoom>
 }
 
 // The record behind the first `used` bytes of the buffer. Of these only the version is looked at.
+// Kept (6; C interface): the buffer and its used count come from the C call, which gets the new count.
 pub fn add(file: &mut [u8], used: usize, dictionary: &[u8], value: &[u8]) -> Result<usize, AddError>
     ensures { Adds file.old used (record_of dictionary.now value.now) result file.new }
 {
@@ -26,9 +27,7 @@ pub fn add(file: &mut [u8], used: usize, dictionary: &[u8], value: &[u8]) -> Res
         return Err(AddError::Damaged);
     }
     check_version(&file[..used])?;
-    let Some(count) = count_of(dictionary.len(), value.len()) else {
-        return Err(AddError::NoRoom);
-    };
+    let count = count_of(dictionary.len(), value.len()).ok_or(AddError::NoRoom)?;
     let size = 4 + count as usize;
     if file.len() - used < size {
         return Err(AddError::NoRoom);

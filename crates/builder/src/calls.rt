@@ -1,26 +1,23 @@
 // The calls over the whole record, by value: each picks what it sees of the record, calls its piece, and puts the result back.
 // Derived from the methods of `VariantBuilder`, `ListBuilder` and `ObjectBuilder` of parquet-variant 60.1.0: see lib.rt and NOTICE.
 // Changed: written in Rattle; `mark` and `return_to` are new.
+// Kept (5b; project rule): a public call may not ask more of its callers: one struct of `&mut` would ask it for slices that it only reads.
 ghost use Rattle.std.specs.Prelude.{◌≡◌, false, true};
-ghost use Rattle.semantics.specs.Record.{append as append_of, bytes as bytes_of, civil, fixed, packed, uuid as uuid_of};
-ghost use Rattle.semantics.specs.Record.{close as close_of, finish as finish_of, open_in, register as register_of, return_to, roll_back, set_mark, uniqueness};
-ghost use Rattle.semantics.specs.Record.{storage_of};
-ghost use Rattle.refusals.specs.Decide.{name_of};
+ghost use Rattle.semantics.specs.Record.{append as append_of, close as close_of, finish as finish_of, open_in, register as register_of};
+ghost use Rattle.semantics.specs.Record.{return_to, roll_back, set_mark, storage_of, uniqueness};
+ghost use Rattle.refusals.specs.Decide.{name_in};
 ghost use Rattle.builder.specs.Calls.{Does, Finishes, state};
 
 use crate::Finished;
 use crate::made::{moved, with_container, with_elements};
 use actions::{
-    append_bytes_over, append_civil_over, append_packed_over, append_uuid_over, append_value_over,
-    close_over, finish_over, mark_over, open_over, register, return_over, rollback_over,
-    unique_over,
+    Scalar, append_over, close_over, finish_over, mark_over, open_over, register, return_over,
+    rollback_over, unique_over,
 };
-use calendar::civil::Civil;
 use marks::{NUMBERS, mark_at, put_mark};
 use records::view_of;
-use refusals::{Seen, name_if};
+use refusals::Seen;
 use semantics::{Builder, Refusal};
-use value::variant::{Variant, VariantBytes};
 
 // A name given beforehand, or while containers are open: a new one belongs to the innermost and goes when that one is rolled back.
 pub fn add_field_name(
@@ -43,8 +40,8 @@ pub fn add_field_name(
     Ok(moved(b, r))
 }
 
-// A scalar of fixed size.
-pub fn append_value(
+// A scalar: of fixed size, a date or a date and a time of day, packed decimal, bytes of a kind, or a UUID.
+pub fn append<X: Scalar>(
     b: Builder,
     marks: &[usize; NUMBERS],
     value: &mut [u8],
@@ -52,115 +49,17 @@ pub fn append_value(
     ends: &mut [usize],
     entries: &mut [usize],
     undo: &mut [usize],
-    named: bool,
-    name: &[u8],
-    x: Variant,
+    name: Option<&[u8]>,
+    x: X,
 ) -> Result<Builder, Refusal>
     ensures { Does result marks.now
         (storage_of value.new text.new ends.new entries.new undo.new)
         (state b marks.now (storage_of value.old text.old ends.old entries.old undo.old))
-        (append_of (name_of named name.now) (fixed x)) }
+        (append_of (name_in name.entry) (X.scalar x)) }
 {
     let v = view_of(&b, marks);
-    let given = name_if(named, name);
-    let r = append_value_over(v, value, text, ends, entries, undo, given, x)?;
-    Ok(moved(b, r))
-}
-
-// A date, or one of the two timestamps in microseconds, from a date and a time of day.
-pub fn append_civil(
-    b: Builder,
-    marks: &[usize; NUMBERS],
-    value: &mut [u8],
-    text: &mut [u8],
-    ends: &mut [usize],
-    entries: &mut [usize],
-    undo: &mut [usize],
-    named: bool,
-    name: &[u8],
-    x: Civil,
-) -> Result<Builder, Refusal>
-    ensures { Does result marks.now
-        (storage_of value.new text.new ends.new entries.new undo.new)
-        (state b marks.now (storage_of value.old text.old ends.old entries.old undo.old))
-        (append_of (name_of named name.now) (civil x)) }
-{
-    let v = view_of(&b, marks);
-    let given = name_if(named, name);
-    let r = append_civil_over(v, value, text, ends, entries, undo, given, x)?;
-    Ok(moved(b, r))
-}
-
-// Packed decimal, two digits a byte, and a scale: the smallest of the three decimals that holds the number.
-pub fn append_packed(
-    b: Builder,
-    marks: &[usize; NUMBERS],
-    value: &mut [u8],
-    text: &mut [u8],
-    ends: &mut [usize],
-    entries: &mut [usize],
-    undo: &mut [usize],
-    named: bool,
-    name: &[u8],
-    scale: u8,
-    bytes: &[u8],
-) -> Result<Builder, Refusal>
-    ensures { Does result marks.now
-        (storage_of value.new text.new ends.new entries.new undo.new)
-        (state b marks.now (storage_of value.old text.old ends.old entries.old undo.old))
-        (append_of (name_of named name.now) (packed scale bytes.now)) }
-{
-    let v = view_of(&b, marks);
-    let given = name_if(named, name);
-    let r = append_packed_over(v, value, text, ends, entries, undo, given, scale, bytes)?;
-    Ok(moved(b, r))
-}
-
-// Binary, String, short text or plain text.
-pub fn append_bytes(
-    b: Builder,
-    marks: &[usize; NUMBERS],
-    value: &mut [u8],
-    text: &mut [u8],
-    ends: &mut [usize],
-    entries: &mut [usize],
-    undo: &mut [usize],
-    named: bool,
-    name: &[u8],
-    kind: VariantBytes,
-    bytes: &[u8],
-) -> Result<Builder, Refusal>
-    ensures { Does result marks.now
-        (storage_of value.new text.new ends.new entries.new undo.new)
-        (state b marks.now (storage_of value.old text.old ends.old entries.old undo.old))
-        (append_of (name_of named name.now) (bytes_of kind bytes.now)) }
-{
-    let v = view_of(&b, marks);
-    let given = name_if(named, name);
-    let r = append_bytes_over(v, value, text, ends, entries, undo, given, kind, bytes)?;
-    Ok(moved(b, r))
-}
-
-pub fn append_uuid(
-    b: Builder,
-    marks: &[usize; NUMBERS],
-    value: &mut [u8],
-    text: &mut [u8],
-    ends: &mut [usize],
-    entries: &mut [usize],
-    undo: &mut [usize],
-    named: bool,
-    name: &[u8],
-    uuid: [u8; 16],
-) -> Result<Builder, Refusal>
-    ensures { Does result marks.now
-        (storage_of value.new text.new ends.new entries.new undo.new)
-        (state b marks.now (storage_of value.old text.old ends.old entries.old undo.old))
-        (append_of (name_of named name.now) (uuid_of uuid)) }
-{
-    let v = view_of(&b, marks);
-    let given = name_if(named, name);
-    let r = append_uuid_over(v, value, text, ends, entries, undo, given, uuid)?;
+    let own = x.own();
+    let r = append_over(v, value, text, ends, entries, undo, name, own)?;
     Ok(moved(b, r))
 }
 
@@ -172,19 +71,17 @@ pub fn new_list(
     ends: &mut [usize],
     entries: &mut [usize],
     undo: &mut [usize],
-    named: bool,
-    name: &[u8],
+    name: Option<&[u8]>,
 ) -> Result<Builder, Refusal>
     ensures { Does result marks.now
         (storage_of value.now text.new ends.new entries.new undo.new)
         (state b marks.now (storage_of value.now text.old ends.old entries.old undo.old))
-        (open_in (name_of named name.now) false) }
+        (open_in (name_in name.entry) false) }
 {
-    new_container(
-        b, marks, value, text, ends, entries, undo, named, name, false,
-    )
+    new_container(b, marks, value, text, ends, entries, undo, name, false)
 }
 
+// Kept (2; project rule): DECISIONS: names are the Rust's, which has a call for each of the two.
 pub fn new_object(
     b: Builder,
     marks: &[usize; NUMBERS],
@@ -193,19 +90,17 @@ pub fn new_object(
     ends: &mut [usize],
     entries: &mut [usize],
     undo: &mut [usize],
-    named: bool,
-    name: &[u8],
+    name: Option<&[u8]>,
 ) -> Result<Builder, Refusal>
     ensures { Does result marks.now
         (storage_of value.now text.new ends.new entries.new undo.new)
         (state b marks.now (storage_of value.now text.old ends.old entries.old undo.old))
-        (open_in (name_of named name.now) true) }
+        (open_in (name_in name.entry) true) }
 {
-    new_container(
-        b, marks, value, text, ends, entries, undo, named, name, true,
-    )
+    new_container(b, marks, value, text, ends, entries, undo, name, true)
 }
 
+// Kept (1c; no plainer): a container's record holds its kind as this flag, and so does the definition of an open.
 fn new_container(
     b: Builder,
     marks: &[usize; NUMBERS],
@@ -214,18 +109,16 @@ fn new_container(
     ends: &mut [usize],
     entries: &mut [usize],
     undo: &mut [usize],
-    named: bool,
-    name: &[u8],
+    name: Option<&[u8]>,
     object: bool,
 ) -> Result<Builder, Refusal>
     ensures { Does result marks.now
         (storage_of value.now text.new ends.new entries.new undo.new)
         (state b marks.now (storage_of value.now text.old ends.old entries.old undo.old))
-        (open_in (name_of named name.now) object) }
+        (open_in (name_in name.entry) object) }
 {
     let v = view_of(&b, marks);
-    let given = name_if(named, name);
-    let r = open_over(v, value, text, ends, entries, undo, given, object)?;
+    let r = open_over(v, value, text, ends, entries, undo, name, object)?;
     let d = b.counts.depth;
     let outer = with_elements(b.elements, d, r.elements);
     let all = with_elements(outer, d + 1, 0);
@@ -251,6 +144,7 @@ pub fn close(
     Ok(moved(b, r))
 }
 
+// Kept (2; no plainer): a close and a roll back are alike in form only; each has its own piece, and they write other slices.
 pub fn rollback(
     b: Builder,
     marks: &[usize; NUMBERS],
@@ -271,6 +165,7 @@ pub fn rollback(
 }
 
 // The uniqueness mark of the innermost object, for later calls.
+// Kept (1c; project rule): the call is the Rust's by name (DECISIONS), and this is its own parameter.
 pub fn with_validate_unique_fields(
     b: Builder,
     marks: &[usize; NUMBERS],

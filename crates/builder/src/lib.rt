@@ -24,9 +24,10 @@
 mod calls;
 mod made;
 
+pub use actions::{Packed, Scalar};
 pub use calls::{
-    add_field_name, append_bytes, append_civil, append_packed, append_uuid, append_value, close,
-    finish, mark, new_list, new_object, return_to, rollback, with_validate_unique_fields,
+    add_field_name, append, close, finish, mark, new_list, new_object, return_to, rollback,
+    with_validate_unique_fields,
 };
 pub use made::{new, with_floor};
 use semantics::{Builder, Refusal};

@@ -1,4 +1,6 @@
 // The record made, and what a call gives back of it.
+// Kept (1c; project rule): the calls are the Rust's by name (DECISIONS), and its parameter for the uniqueness mark is a flag.
+// Kept (6; no plainer): an array of fixed length by value, of which one place is set, is no slice that could be split.
 ghost use Rattle.std.specs.Prelude.{◌≡◌, ◌<◌, set};
 ghost use Rattle.actions.specs.Actions.{elements_put};
 ghost use Rattle.builder.specs.Calls.{Makes, fresh_of};

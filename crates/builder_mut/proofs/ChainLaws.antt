@@ -17,7 +17,8 @@ use Rattle.builder_mut.specs.Calls.{bytes_told, DoesThin, FinishesThin}
 use Rattle.builder_mut.proofs.ThinLaws.{by_value, finish_by_value, thin_does, thin_finishes}
 
 module _ {s u : State} {b : Builder} {ms : List ℕ} {after : Storage} {cs : List Call} {d : List ℕ} where
-  pub thin_call : {c : Call} (a : Result (Unit {0}) Refusal) → is_finish c ≡ false → DoesThin a b ms after s c → Chain (state b ms after) cs u d → Chain s (c ∷ cs) u d
+  pub thin_call : {c : Call} (a : Result (Unit {0}) Refusal) → is_finish c ≡ false → DoesThin a b ms after s c → Chain (state b ms after) cs u d
+      → Chain s (c ∷ cs) u d
   thin_call {c} a f h m = let g = thin_does a s c h in a_call (by_value b a) f g (rw (g.1 ∙ sym h.1) m)
 
   pub thin_finish : {out left : List ℕ} (a : Result ℕ Refusal) → FinishesThin a b ms after left s (finish out) → Chain (state b ms after) cs u d

@@ -22,7 +22,8 @@ abbrev pub told : Result Builder Refusal → Result (Unit {0}) Refusal
 told (Ok b) = Ok tt
 told (Err e) = Err e
 
-pub does_thin : (r : Result Builder Refusal) (ms : List ℕ) (after : Storage) (s : State) (k : Call) → Does r ms after s k → DoesThin (told r) (builder_then s.builder r) ms after s k
+pub does_thin : (r : Result Builder Refusal) (ms : List ℕ) (after : Storage) (s : State) (k : Call) → Does r ms after s k
+    → DoesThin (told r) (builder_then s.builder r) ms after s k
 does_thin (Ok b) ms after s k h = h
 does_thin (Err e) ms after s k h = h
 
@@ -49,7 +50,8 @@ abbrev pub by_value : Builder → Result (Unit {0}) Refusal → Result Builder R
 by_value b (Ok x) = Ok b
 by_value b (Err e) = Err e
 
-pub thin_does : (a : Result (Unit {0}) Refusal) {b : Builder} {ms : List ℕ} {after : Storage} (s : State) (k : Call) → DoesThin a b ms after s k → Does (by_value b a) ms after s k
+pub thin_does : (a : Result (Unit {0}) Refusal) {b : Builder} {ms : List ℕ} {after : Storage} (s : State) (k : Call) → DoesThin a b ms after s k
+    → Does (by_value b a) ms after s k
 thin_does (Ok x) s k h = h
 thin_does (Err e) s k h = (h.0, kept s k e h.0, h.2, h.3)
 
@@ -57,7 +59,7 @@ abbrev pub finish_by_value : Builder → Result ℕ Refusal → Result Finished 
 finish_by_value b (Ok w) = Ok (record { written = w; builder = b })
 finish_by_value b (Err e) = Err e
 
-pub thin_finishes : (a : Result ℕ Refusal) {b : Builder} {ms : List ℕ} {after : Storage} {out : List ℕ} (s : State) (k : Call) → FinishesThin a b ms after out s k
-    → Finishes (finish_by_value b a) ms after out s k
+pub thin_finishes : (a : Result ℕ Refusal) {b : Builder} {ms : List ℕ} {after : Storage} {out : List ℕ} (s : State) (k : Call)
+    → FinishesThin a b ms after out s k → Finishes (finish_by_value b a) ms after out s k
 thin_finishes (Ok w) s k h = h
 thin_finishes (Err e) s k h = (h.0, h.1, kept s k e h.0, h.3, h.4, h.5)

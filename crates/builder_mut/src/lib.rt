@@ -16,13 +16,29 @@
 // under the License.
 
 // Derived from the `&mut self` methods of `VariantBuilder`, `ListBuilder` and `ObjectBuilder` of parquet-variant 60.1.0,
-// src/builder.rs, src/builder/list.rs and src/builder/object.rs. Changed: written in Rattle; each call takes the builder record by
-// `&mut`, makes the call by value on a copy and stores the record that came back; a refused call stores none.
+// src/builder.rs, src/builder/list.rs and src/builder/object.rs. Changed: written in Rattle; the calls take the record by `&mut` and each lent
+// slice as the call by value of crate `builder` does, by `&` where it only reads: each makes that call on a copy of the record and stores
+// the record that came back; a refused call stores none. Beside them stands one struct of references, with the same calls as its methods.
 #![tactic(auto)]
 
 mod thin;
+mod variant_builder;
 
+use marks::NUMBERS;
+use semantics::Builder;
 pub use thin::{
-    add_field_name, append_bytes, append_civil, append_packed, append_uuid, append_value, close,
-    finish, mark, new_list, new_object, return_to, rollback, with_validate_unique_fields,
+    add_field_name, append, close, finish, mark, new_list, new_object, return_to, rollback,
+    with_validate_unique_fields,
 };
+
+// The builder's record, and the table of marks and the slices that it is lent.
+#[derive(Drop)]
+pub struct VariantBuilder<'a> {
+    pub builder: &'a mut Builder,
+    pub marks: &'a mut [usize; NUMBERS],
+    pub value: &'a mut [u8],
+    pub text: &'a mut [u8],
+    pub ends: &'a mut [usize],
+    pub entries: &'a mut [usize],
+    pub undo: &'a mut [usize],
+}

@@ -1,17 +1,17 @@
-// Written by tools/thin.py: the calls that take the record by `&mut`, each over the call by value of the same name.
+// The calls that take the record by `&mut`, each over the call by value of the same name.
 // Derived from the `&mut self` methods of parquet-variant 60.1.0: see lib.rt and NOTICE. Changed: written in Rattle.
+// Kept (5b; project rule): which of the lent slices a call may write is said by their types; one struct of `&mut` asks more, and stands beside.
+// Kept (2; project rule): the calls have the Rust's names (docs/DECISIONS.md), one each, though some are alike in form.
 ghost use Rattle.std.specs.Prelude.{◌≡◌, false, true};
-ghost use Rattle.semantics.specs.Record.{append as append_of, bytes as bytes_of, civil, fixed, packed, uuid as uuid_of};
-ghost use Rattle.semantics.specs.Record.{close as close_of, finish as finish_of, open_in, register as register_of, return_to, roll_back, set_mark, uniqueness};
-ghost use Rattle.semantics.specs.Record.{storage_of};
-ghost use Rattle.refusals.specs.Decide.{name_of};
+ghost use Rattle.semantics.specs.Record.{append as append_of, close as close_of, finish as finish_of, open_in, register as register_of};
+ghost use Rattle.semantics.specs.Record.{return_to, roll_back, set_mark, storage_of, uniqueness};
+ghost use Rattle.refusals.specs.Decide.{name_in};
 ghost use Rattle.builder.specs.Calls.{state};
 ghost use Rattle.builder_mut.specs.Calls.{DoesThin, FinishesThin};
 
-use calendar::civil::Civil;
+use builder::Scalar;
 use marks::NUMBERS;
 use semantics::{Builder, Refusal};
-use value::variant::{Variant, VariantBytes};
 
 // A name given beforehand, or while containers are open: a new one belongs to the innermost and goes when that one is rolled back.
 pub fn add_field_name(
@@ -26,16 +26,15 @@ pub fn add_field_name(
 ) -> Result<(), Refusal>
     ensures { DoesThin result b.new marks.now
         (storage_of value.now text.new ends.new entries.now undo.now)
-        (state b.old marks.now
-        (storage_of value.now text.old ends.old entries.now undo.now))
+        (state b.old marks.now (storage_of value.now text.old ends.old entries.now undo.now))
         (register_of name.now) }
 {
     *b = builder::add_field_name(*b, marks, value, text, ends, entries, undo, name)?;
     Ok(())
 }
 
-// A scalar of fixed size.
-pub fn append_value(
+// A scalar: of fixed size, a date or a date and a time of day, packed decimal, bytes of a kind, or a UUID.
+pub fn append<X: Scalar>(
     b: &mut Builder,
     marks: &[usize; NUMBERS],
     value: &mut [u8],
@@ -43,116 +42,15 @@ pub fn append_value(
     ends: &mut [usize],
     entries: &mut [usize],
     undo: &mut [usize],
-    named: bool,
-    name: &[u8],
-    x: Variant,
+    name: Option<&[u8]>,
+    x: X,
 ) -> Result<(), Refusal>
     ensures { DoesThin result b.new marks.now
         (storage_of value.new text.new ends.new entries.new undo.new)
-        (state b.old marks.now
-        (storage_of value.old text.old ends.old entries.old undo.old))
-        (append_of (name_of named name.now) (fixed x)) }
+        (state b.old marks.now (storage_of value.old text.old ends.old entries.old undo.old))
+        (append_of (name_in name.entry) (X.scalar x)) }
 {
-    *b = builder::append_value(*b, marks, value, text, ends, entries, undo, named, name, x)?;
-    Ok(())
-}
-
-// A date, or one of the two timestamps in microseconds, from a date and a time of day.
-pub fn append_civil(
-    b: &mut Builder,
-    marks: &[usize; NUMBERS],
-    value: &mut [u8],
-    text: &mut [u8],
-    ends: &mut [usize],
-    entries: &mut [usize],
-    undo: &mut [usize],
-    named: bool,
-    name: &[u8],
-    x: Civil,
-) -> Result<(), Refusal>
-    ensures { DoesThin result b.new marks.now
-        (storage_of value.new text.new ends.new entries.new undo.new)
-        (state b.old marks.now
-        (storage_of value.old text.old ends.old entries.old undo.old))
-        (append_of (name_of named name.now) (civil x)) }
-{
-    *b = builder::append_civil(*b, marks, value, text, ends, entries, undo, named, name, x)?;
-    Ok(())
-}
-
-// Packed decimal, two digits a byte, and a scale: the smallest of the three decimals that holds the number.
-pub fn append_packed(
-    b: &mut Builder,
-    marks: &[usize; NUMBERS],
-    value: &mut [u8],
-    text: &mut [u8],
-    ends: &mut [usize],
-    entries: &mut [usize],
-    undo: &mut [usize],
-    named: bool,
-    name: &[u8],
-    scale: u8,
-    bytes: &[u8],
-) -> Result<(), Refusal>
-    ensures { DoesThin result b.new marks.now
-        (storage_of value.new text.new ends.new entries.new undo.new)
-        (state b.old marks.now
-        (storage_of value.old text.old ends.old entries.old undo.old))
-        (append_of (name_of named name.now) (packed scale bytes.now)) }
-{
-    *b = builder::append_packed(
-        *b, marks, value, text, ends, entries, undo, named, name, scale, bytes,
-    )?;
-    Ok(())
-}
-
-// Binary, String, short text or plain text.
-pub fn append_bytes(
-    b: &mut Builder,
-    marks: &[usize; NUMBERS],
-    value: &mut [u8],
-    text: &mut [u8],
-    ends: &mut [usize],
-    entries: &mut [usize],
-    undo: &mut [usize],
-    named: bool,
-    name: &[u8],
-    kind: VariantBytes,
-    bytes: &[u8],
-) -> Result<(), Refusal>
-    ensures { DoesThin result b.new marks.now
-        (storage_of value.new text.new ends.new entries.new undo.new)
-        (state b.old marks.now
-        (storage_of value.old text.old ends.old entries.old undo.old))
-        (append_of (name_of named name.now) (bytes_of kind bytes.now)) }
-{
-    *b = builder::append_bytes(
-        *b, marks, value, text, ends, entries, undo, named, name, kind, bytes,
-    )?;
-    Ok(())
-}
-
-pub fn append_uuid(
-    b: &mut Builder,
-    marks: &[usize; NUMBERS],
-    value: &mut [u8],
-    text: &mut [u8],
-    ends: &mut [usize],
-    entries: &mut [usize],
-    undo: &mut [usize],
-    named: bool,
-    name: &[u8],
-    uuid: [u8; 16],
-) -> Result<(), Refusal>
-    ensures { DoesThin result b.new marks.now
-        (storage_of value.new text.new ends.new entries.new undo.new)
-        (state b.old marks.now
-        (storage_of value.old text.old ends.old entries.old undo.old))
-        (append_of (name_of named name.now) (uuid_of uuid)) }
-{
-    *b = builder::append_uuid(
-        *b, marks, value, text, ends, entries, undo, named, name, uuid,
-    )?;
+    *b = builder::append(*b, marks, value, text, ends, entries, undo, name, x)?;
     Ok(())
 }
 
@@ -164,16 +62,14 @@ pub fn new_list(
     ends: &mut [usize],
     entries: &mut [usize],
     undo: &mut [usize],
-    named: bool,
-    name: &[u8],
+    name: Option<&[u8]>,
 ) -> Result<(), Refusal>
     ensures { DoesThin result b.new marks.now
         (storage_of value.now text.new ends.new entries.new undo.new)
-        (state b.old marks.now
-        (storage_of value.now text.old ends.old entries.old undo.old))
-        (open_in (name_of named name.now) false) }
+        (state b.old marks.now (storage_of value.now text.old ends.old entries.old undo.old))
+        (open_in (name_in name.entry) false) }
 {
-    *b = builder::new_list(*b, marks, value, text, ends, entries, undo, named, name)?;
+    *b = builder::new_list(*b, marks, value, text, ends, entries, undo, name)?;
     Ok(())
 }
 
@@ -185,16 +81,14 @@ pub fn new_object(
     ends: &mut [usize],
     entries: &mut [usize],
     undo: &mut [usize],
-    named: bool,
-    name: &[u8],
+    name: Option<&[u8]>,
 ) -> Result<(), Refusal>
     ensures { DoesThin result b.new marks.now
         (storage_of value.now text.new ends.new entries.new undo.new)
-        (state b.old marks.now
-        (storage_of value.now text.old ends.old entries.old undo.old))
-        (open_in (name_of named name.now) true) }
+        (state b.old marks.now (storage_of value.now text.old ends.old entries.old undo.old))
+        (open_in (name_in name.entry) true) }
 {
-    *b = builder::new_object(*b, marks, value, text, ends, entries, undo, named, name)?;
+    *b = builder::new_object(*b, marks, value, text, ends, entries, undo, name)?;
     Ok(())
 }
 
@@ -209,8 +103,7 @@ pub fn close(
 ) -> Result<(), Refusal>
     ensures { DoesThin result b.new marks.now
         (storage_of value.new text.now ends.now entries.new undo.now)
-        (state b.old marks.now
-        (storage_of value.old text.now ends.now entries.old undo.now))
+        (state b.old marks.now (storage_of value.old text.now ends.now entries.old undo.now))
         close_of }
 {
     *b = builder::close(*b, marks, value, text, ends, entries, undo)?;
@@ -228,8 +121,7 @@ pub fn rollback(
 ) -> Result<(), Refusal>
     ensures { DoesThin result b.new marks.now
         (storage_of value.now text.now ends.now entries.new undo.now)
-        (state b.old marks.now
-        (storage_of value.now text.now ends.now entries.old undo.now))
+        (state b.old marks.now (storage_of value.now text.now ends.now entries.old undo.now))
         roll_back }
 {
     *b = builder::rollback(*b, marks, value, text, ends, entries, undo)?;
@@ -237,6 +129,7 @@ pub fn rollback(
 }
 
 // The uniqueness mark of the innermost object, for later calls.
+// Kept (1c; project rule): the call has the Rust's name and its parameter (docs/DECISIONS.md).
 pub fn with_validate_unique_fields(
     b: &mut Builder,
     marks: &[usize; NUMBERS],
@@ -249,8 +142,7 @@ pub fn with_validate_unique_fields(
 ) -> Result<(), Refusal>
     ensures { DoesThin result b.new marks.now
         (storage_of value.now text.now ends.now entries.now undo.now)
-        (state b.old marks.now
-        (storage_of value.now text.now ends.now entries.now undo.now))
+        (state b.old marks.now (storage_of value.now text.now ends.now entries.now undo.now))
         (uniqueness unique) }
 {
     *b = builder::with_validate_unique_fields(*b, marks, value, text, ends, entries, undo, unique)?;
@@ -269,8 +161,7 @@ pub fn mark(
 ) -> Result<(), Refusal>
     ensures { DoesThin result b.new marks.new
         (storage_of value.now text.now ends.now entries.now undo.now)
-        (state b.old marks.old
-        (storage_of value.now text.now ends.now entries.now undo.now))
+        (state b.old marks.old (storage_of value.now text.now ends.now entries.now undo.now))
         set_mark }
 {
     *b = builder::mark(*b, marks, value, text, ends, entries, undo)?;
@@ -290,8 +181,7 @@ pub fn return_to(
 ) -> Result<(), Refusal>
     ensures { DoesThin result b.new marks.now
         (storage_of value.now text.now ends.now entries.new undo.now)
-        (state b.old marks.now
-        (storage_of value.now text.now ends.now entries.old undo.now))
+        (state b.old marks.now (storage_of value.now text.now ends.now entries.old undo.now))
         (return_to mark) }
 {
     *b = builder::return_to(*b, marks, value, text, ends, entries, undo, mark)?;
@@ -311,8 +201,8 @@ pub fn finish(
 ) -> Result<usize, Refusal>
     ensures { FinishesThin result b.new marks.now
         (storage_of value.now text.now ends.now entries.now undo.now)
-        out.new (state b.old marks.now
-        (storage_of value.now text.now ends.now entries.now undo.now))
+        out.new
+        (state b.old marks.now (storage_of value.now text.now ends.now entries.now undo.now))
         (finish_of out.old) }
 {
     let f = builder::finish(*b, marks, value, text, ends, entries, undo, out)?;

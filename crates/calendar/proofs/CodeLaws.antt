@@ -1,48 +1,22 @@
 -- What the machine computes, as the definitions say it.
-use mathlib.Core.Path.{◌≡◌, refl, sym, ◌∙◌, ap, subst}
-use mathlib.Core.Bool.{Bool, true, false, not, ◌&&◌, ◌||◌, true≢false}
-use Prim.Native.Nat.{ℕ, suc, ◌+◌, ◌-◌, ◌*◌, ◌^◌, ◌≤◌, ◌<◌}
+use mathlib.Core.Path.{◌≡◌, ◌∙◌, ap}
+use mathlib.Core.Bool.{true, false, true≢false}
+use Prim.Native.Nat.{ℕ, suc, ◌+◌, ◌-◌, ◌^◌, ◌≤◌, ◌<◌}
 use native.Mathlib.Omega.{arith}
 use lib.Dec.{leb, leb-zero}
-use lib.IntN.{ℤ, pos, negsuc, ◌+ℤ◌, ◌-ℤ◌}
-use lib.Signed.{mag}
+use lib.IntN.{ℤ, pos, negsuc, nat_abs, ◌+ℤ◌, ◌-ℤ◌, ◌*ℤ◌}
+use Rattle.std.proofs.lemmas.Int.{fits_signed_from_abs, unsigned_abs-mul}
 use borrow.Author.Tests.{leb-true, not-false}
-use mir.Syntax.{Width, w32, w64}
+use mir.Syntax.{Width, w64}
 use mir.Val.{SFits, hbits, of_z, to_z}
 use mir.ValLaws.{to_z-of_z, to_z_pos}
 use Rattle.value.specs.Decimal.{beyond_day}
-use Rattle.calendar.specs.Gregorian.{leap, month_length, years, within, in_calendar, days_before, day_number, date_at, timestamp, YearOf, MonthOf}
+use Rattle.calendar.specs.Gregorian.{leap, years, in_calendar, days_before, day_number, date_at, YearOf, MonthOf}
 use Rattle.calendar.specs.declared.date.Date.{Date}
 use Rattle.calendar.proofs.CountLaws.{month_size}
 use Rattle.calendar.proofs.DateLaws.{arrived}
-use Rattle.calendar.proofs.NumberLaws.{Before, small, timestamp_shift}
+use Rattle.calendar.proofs.NumberLaws.{Before, difference_near, small, sum_near}
 use Rattle.calendar.proofs.CalendarLaws.{days_few}
-
--- ---- the test of a date
-
--- a year or a month below 1 is refused, whichever month's length is asked
-pub tests : (d : Date) →
-    (within (pos 1) d.year (pos 9999)
-    && (within (pos 1) d.month (pos 12) && within (pos 1) d.day (pos (month_length (leap (mag d.year)) (mag d.month)))))
-    ≡ in_calendar d
-unfolding in_calendar
-tests d = go d.year d.month d.day
-  where
-    go : (y m z : ℤ) →
-        (within (pos 1) y (pos 9999) && (within (pos 1) m (pos 12) && within (pos 1) z (pos (month_length (leap (mag y)) (mag m)))))
-        ≡ in_calendar (record { year = y; month = m; day = z })
-    go (pos y) (pos m) z = refl
-    go (pos y) (negsuc m) z = refl
-    go (negsuc y) m z = refl
-
--- a natural number that is handed over as a signed one
-pub given : (z : ℤ) (n : ℕ) → z ≡ pos n → n < 2 ^ 63 → mag (to_z w64 (of_z w64 z)) ≡ n
-given z n e h = ap (λ x. mag (to_z w64 (of_z w64 x))) e ∙ ap mag (to_z-of_z w64 (pos n) (record { sfits = h }))
-
--- neither row 17's first condition nor its second
-pub neither : (a b : Bool) → (not a || b) ≡ false → (a ≡ true) × (b ≡ false)
-neither true b e = (refl, e)
-neither false b e = absurd (true≢false e)
 
 -- ---- differences
 
@@ -57,42 +31,36 @@ less w n b h k =
     let f : SFits w (to_z w n -ℤ pos (suc b)) = rw e (record { sfits = small n (suc b) (2 ^ hbits w) h k }) in
     record { fit = f; is = to_z-of_z w (to_z w n -ℤ pos (suc b)) f ∙ ap (λ z. z -ℤ pos (suc b)) e }
 
--- a day of the span, and the days before it
-pub record Shifted (x : ℤ) (n : ℕ) : Type 0 where
-  pub fit : SFits w64 (to_z w64 (of_z w64 x) +ℤ pos 719162)
-  pub is : to_z w64 (of_z w64 (to_z w64 (of_z w64 x) +ℤ pos 719162)) ≡ pos n
+-- a day of the span, shifted to the days before it
+pub shifted : (x : ℤ) → SFits w64 x → (b : Before x) → to_z w64 (of_z w64 (to_z w64 (of_z w64 x) +ℤ pos 719162)) ≡ pos b.days
+shifted x f b = rw (to_z-of_z w64 x f, b.is) (to_z-of_z w64 (pos b.days) (record { sfits = omega (arith, b.low) }))
 
-pub shifted : (x : ℤ) → SFits w64 x → (b : Before x) → Shifted x b.days
-shifted x f b =
-    let q : to_z w64 (of_z w64 x) +ℤ pos 719162 ≡ pos b.days = ap (λ z. z +ℤ pos 719162) (to_z-of_z w64 x f) ∙ b.is in
-    let r : SFits w64 (pos b.days) = record { sfits = omega (arith, b.low) } in
-    record { fit = subst (SFits w64) (sym q) r; is = ap (λ z. to_z w64 (of_z w64 z)) q ∙ to_z-of_z w64 (pos b.days) r }
+-- ---- a timestamp
 
--- ---- what is stored fits
-
-pub day_fits : (d : Date) → in_calendar d ≡ true → SFits w32 (day_number d)
+pub day_near : (d : Date) → in_calendar d ≡ true → nat_abs (day_number d) < 4371221
 unfolding day_number
-day_fits d e = record { sfits = small (days_before d) 719162 (2 ^ 31) (omega (arith, days_few d e)) (omega arith) }
+day_near d e = omega (arith, difference_near (days_before d) 719161, days_few d e)
 
--- a timestamp is one sum above 0, less the microseconds before 1970
-pub record Sums (d : Date) (time : ℤ) : Type 0 where
-  pub low : mag time < 86400000000
-  pub is : timestamp d time ≡ pos (days_before d * 86400000000 + mag time) -ℤ pos 62135596800000000
+-- a day's microseconds, and those with a time of day
+pub record Counts (z time : ℤ) : Type 0 where
+  pub days : SFits w64 (z *ℤ pos 86400000000)
+  pub all : SFits w64 (z *ℤ pos 86400000000 +ℤ time)
 
-pub sums : (d : Date) (time : ℤ) → beyond_day time ≡ false → Sums d time
-unfolding timestamp day_number
-sums d (pos n) e =
+pub counts : (z time : ℤ) → nat_abs z < 4371221 → beyond_day time ≡ false → Counts z time
+counts z (pos n) h e =
+    let l = leb-true n 86399999999 (not-false (leb n 86399999999) (rw leb-zero at e)) in
+    let p = unsigned_abs-mul z (pos 86400000000) in
     record {
-      low = omega (arith, leb-true n 86399999999 (not-false (leb n 86399999999) (rw leb-zero at e)));
-      is = timestamp_shift (days_before d) n;
+      days = fits_signed_from_abs w64 _ (omega (arith, p));
+      all = fits_signed_from_abs w64 _ (omega (arith, p, sum_near (z *ℤ pos 86400000000) n));
     }
-sums d (negsuc n) e = absurd (true≢false e)
+counts z (negsuc n) h e = absurd (true≢false e)
 
-pub timestamp_fits : (d : Date) (time : ℤ) → (in_calendar d ≡ true) × (beyond_day time ≡ false) → SFits w64 (timestamp d time)
-timestamp_fits d time e =
-    let s : Sums d time = sums d time e.1 in
-    rw s.is
-    (record { sfits = small (days_before d * 86400000000 + mag time) 62135596800000000 (2 ^ 63) (omega (arith, days_few d e.0, s.low)) (omega arith) })
+-- x is n as the machine hands it on
+pub counted_as : (x : ℤ) {n time : ℤ} → Counts n time → SFits w64 time → to_z w64 (of_z w64 x) ≡ n
+    → to_z w64 (of_z w64 (to_z w64 (of_z w64 (to_z w64 (of_z w64 x) *ℤ pos 86400000000)) +ℤ to_z w64 (of_z w64 time))) ≡ n *ℤ pos 86400000000 +ℤ time
+counted_as x {n} {time} k f e =
+    rw (e, to_z-of_z w64 (n *ℤ pos 86400000000) k.days, to_z-of_z w64 time f, to_z-of_z w64 (n *ℤ pos 86400000000 +ℤ time) k.all)
 
 -- ---- the code's date
 

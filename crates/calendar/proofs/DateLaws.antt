@@ -66,6 +66,11 @@ tested c e =
       y9999 = y.high;
     }
 
+pub bounds : (c : Date) → in_calendar c ≡ true → Valid (nat_abs c.year) (nat_abs c.month) (nat_abs c.day) × (nat_abs c.year ≤ 9999)
+bounds c e =
+    let t = tested c e in
+    rw t.is (t.valid, t.y9999)
+
 both : {a b : Bool} → a ≡ true → b ≡ true → (a && b) ≡ true
 both {a} {b} p q = (and-eq-true_iff a b).1 (p, q)
 

@@ -1,12 +1,12 @@
 -- Signed numbers: from days counted to day numbers, and back.
-use mathlib.Core.Path.{◌≡◌, refl, ◌∙◌, ap}
+use mathlib.Core.Path.{◌≡◌, refl}
 use mathlib.Core.Bool.{Bool, true, false, cond, and-eq-true_iff}
-use Prim.Native.Nat.{ℕ, zero, suc, ◌+◌, ◌-◌, ◌*◌, ◌≤◌, ◌<◌}
+use Prim.Native.Nat.{ℕ, suc, ◌+◌, ◌-◌, ◌≤◌, ◌<◌}
 use native.Mathlib.Omega.{arith}
 use lib.Dec.{leb, ltb}
-use lib.IntN.{ℤ, pos, negsuc, neg_ℤ, sub_ℕ, ◌+ℤ◌, ◌-ℤ◌, ◌*ℤ◌}
+use lib.IntN.{ℤ, pos, negsuc, nat_abs, sub_ℕ, ◌+ℤ◌, ◌-ℤ◌}
 use lib.Signed.{mag}
-use borrow.Author.Tests.{ltb-true, ltb-false, leb-true, lt-ltb, le-ltb, le-leb}
+use borrow.Author.Tests.{ltb-true, ltb-false, leb-true, le-ltb, le-leb}
 use Rattle.calendar.specs.Gregorian.{in_span}
 
 -- ---- a difference
@@ -19,30 +19,19 @@ small n b h l m = go (ltb n b) refl
     go true e = omega (arith, ltb-true n b e)
     go false e = omega arith
 
-same_difference : (m t w a b : ℕ) → a ≡ m + t → b ≡ m + w → sub_ℕ t w ≡ sub_ℕ a b
-same_difference m t w a b ea eb = go (ltb t w) refl
+near : (n b : ℕ) → nat_abs (sub_ℕ n b) ≤ n + b
+near n b = go (ltb n b) refl
   where
-    go : (s : Bool) → ltb t w ≡ s → cond s (negsuc (w - suc t)) (pos (t - w)) ≡ sub_ℕ a b
-    go true e = rw (lt-ltb a b (omega (arith, ltb-true t w e))) (ap negsuc (omega (arith, ltb-true t w e)))
-    go false e = rw (le-ltb a b (omega (arith, ltb-false t w e))) (ap pos (omega (arith, ltb-false t w e)))
+    go : (t : Bool) → ltb n b ≡ t → nat_abs (cond t (negsuc (b - suc n)) (pos (n - b))) ≤ n + b
+    go true e = omega (arith, ltb-true n b e)
+    go false e = omega arith
 
-below_zero : (w t : ℕ) → neg_ℤ (pos w) +ℤ pos t ≡ sub_ℕ t w
-below_zero zero t = rw (le-ltb t 0 (omega arith)) (ap pos (omega arith))
-below_zero (suc w) t = refl
+pub difference_near : (n b : ℕ) → nat_abs (pos n -ℤ pos (suc b)) ≤ n + suc b
+difference_near n b = near n (suc b)
 
--- a day's microseconds and the time, with one subtraction at the end
-pub timestamp_shift : (n t : ℕ) → (pos n -ℤ pos 719162) *ℤ pos 86400000000 +ℤ pos t ≡ pos (n * 86400000000 + t) -ℤ pos 62135596800000000
-timestamp_shift n t = go (ltb n 719162) refl
-  where
-    go : (s : Bool) → ltb n 719162 ≡ s
-        → cond s (negsuc (719162 - suc n)) (pos (n - 719162)) *ℤ pos 86400000000 +ℤ pos t ≡ pos (n * 86400000000 + t) -ℤ pos 62135596800000000
-    go true e =
-        let h : n < 719162 = ltb-true n 719162 e in
-        below_zero (suc (719162 - suc n) * 86400000000) t
-        ∙ same_difference (n * 86400000000) t (suc (719162 - suc n) * 86400000000) (n * 86400000000 + t) 62135596800000000 refl (omega arith)
-    go false e =
-        let h : 719162 ≤ n = ltb-false n 719162 e in
-        rw (le-ltb (n * 86400000000 + t) 62135596800000000 (omega arith)) (ap pos (omega arith))
+pub sum_near : (z : ℤ) (t : ℕ) → nat_abs (z +ℤ pos t) ≤ nat_abs z + t
+sum_near (pos n) t = omega arith
+sum_near (negsuc n) t = omega (arith, near t (suc n))
 
 -- ---- the span
 

@@ -4,7 +4,7 @@ ghost use Rattle.calendar.specs.Gregorian.{timestamp};
 ghost use Rattle.calendar.specs.Answers.{answer, civil_rows, civil_variant, moment_rows, told};
 
 use crate::date::{Date, OutOfCalendar};
-use encoding::signed::mag;
+use value::decimal::time_out_of_range;
 use value::variant::Variant;
 
 // The time is in microseconds since midnight.
@@ -31,13 +31,13 @@ pub fn variant_of(x: Civil) -> Result<Variant, OutOfCalendar>
     }
 }
 
-// Microseconds since 1970-01-01, counted from 0001-01-01 first.
+// Microseconds since 1970-01-01.
 fn micros_of(date: Date, time: i64) -> Result<i64, OutOfCalendar>
     ensures { told result ≡ answer (moment_rows date time) (timestamp date time) }
 {
-    let days = date.in_calendar()?.days_before();
-    if !(0..=86_399_999_999).contains(&time) {
+    let days = date.in_calendar()?.day_number();
+    if time_out_of_range(time) {
         return Err(OutOfCalendar);
     }
-    Ok((days * 86_400_000_000 + mag(time)) as i64 - 62_135_596_800_000_000)
+    Ok(i64::from(days) * 86_400_000_000 + time)
 }

@@ -3,8 +3,7 @@ ghost use Rattle.std.specs.Prelude.{◌≡◌, false, true, ◌<◌, MatchResult
 ghost use Rattle.calendar.specs.Gregorian.{date_at, date_of_day, day_number, days_before, in_calendar};
 ghost use Rattle.calendar.specs.Answers.{answer, date_rows, day_rows, told};
 
-use crate::gregorian::{is_leap, month_length, month_of, months_before, years_before, years_to};
-use encoding::signed::mag;
+use crate::gregorian::{month_length, month_of, months_before, years_before, years_to};
 
 // Any three numbers; `days_of` says whether they are a date.
 #[derive(Clone, Copy, PartialEq, Eq, PartialOrd, Ord, Debug)]
@@ -47,7 +46,10 @@ impl Date {
     pub(crate) fn in_calendar(self) -> Result<CalendarDate, OutOfCalendar>
         ensures { MatchResult result (λ d. d.date ≡ self) (λ _. in_calendar self ≡ false) }
     {
-        let last = month_length(is_leap(mag(self.year)), mag(self.month));
+        let last = month_length(
+            self.year.unsigned_abs() as usize,
+            self.month.unsigned_abs() as usize,
+        );
         if (1..=9999).contains(&self.year)
             && (1..=12).contains(&self.month)
             && (1..=last as i64).contains(&self.day)
@@ -71,10 +73,10 @@ impl CalendarDate {
         ensures { result ≡ days_before self.date }
     {
         let date = self.date;
-        let year = mag(date.year);
-        let before = years_to(year - 1);
-        let earlier = months_before(is_leap(year), mag(date.month));
-        before + (earlier + (mag(date.day) - 1))
+        let year = date.year.unsigned_abs() as usize;
+        let month = date.month.unsigned_abs() as usize;
+        let day = date.day.unsigned_abs() as usize;
+        years_to(year - 1) + (months_before(year, month) + (day - 1))
     }
 }
 
@@ -84,7 +86,7 @@ fn date_at(n: usize) -> Date
     ensures { result ≡ date_at n }
 {
     let k = years_before(n);
-    let at = month_of(is_leap(k + 1), n - years_to(k));
+    let at = month_of(k + 1, n - years_to(k));
     Date {
         year: (k + 1) as i64,
         month: at.month as i64,

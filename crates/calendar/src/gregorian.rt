@@ -11,18 +11,18 @@ pub(crate) struct MonthDay {
 }
 
 #[tactic(auto, unfolding(crate::specs::Gregorian::leap))]
-pub(crate) fn is_leap(year: usize) -> bool
+fn is_leap(year: usize) -> bool
     ensures { result ≡ leap year }
 {
     year % 4 == 0 && (year % 100 != 0 || year % 400 == 0)
 }
 
 #[tactic(auto, unfolding(crate::specs::Gregorian::month_length))]
-pub(crate) fn month_length(long: bool, month: usize) -> usize
-    ensures { result ≡ month_length long month }
+pub(crate) fn month_length(year: usize, month: usize) -> usize
+    ensures { result ≡ month_length (leap year) month }
 {
     match month {
-        2 if long => 29,
+        2 if is_leap(year) => 29,
         2 => 28,
         4 | 6 | 9 | 11 => 30,
         _ => 31,
@@ -38,13 +38,14 @@ pub(crate) fn years_to(k: usize) -> usize
 }
 
 // Days of the months before this one.
-pub(crate) fn months_before(long: bool, month: usize) -> usize
+// Kept (3; proof): as `(1..month).map(..).sum()`, that the sum fits and that it is the definition's stayed open.
+pub(crate) fn months_before(year: usize, month: usize) -> usize
     requires { (0 < month) × (month < 13) }
-    ensures { result ≡ months long (month - 1) }
+    ensures { result ≡ months (leap year) (month - 1) }
 {
     let mut sum = 0;
     for m in 1..month {
-        sum += month_length(long, m);
+        sum += month_length(year, m);
     }
     sum
 }
@@ -63,13 +64,14 @@ pub(crate) fn years_before(n: usize) -> usize
 }
 
 // The month and the day of day n of a year.
-pub(crate) fn month_of(long: bool, n: usize) -> MonthDay
-    requires { n < year_length long }
-    ensures { MonthOf long n result.month result.day }
+// Kept (3; no plainer): the months are numbers, and the one in which the days run out is the answer.
+pub(crate) fn month_of(year: usize, n: usize) -> MonthDay
+    requires { n < year_length (leap year) }
+    ensures { MonthOf (leap year) n result.month result.day }
 {
     let mut rest = n;
     for month in 1..12 {
-        let length = month_length(long, month);
+        let length = month_length(year, month);
         if rest < length {
             return MonthDay { month, day: rest };
         }

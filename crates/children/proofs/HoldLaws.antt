@@ -29,7 +29,8 @@ use Rattle.grammar.proofs.FieldLaws.{scalar_first}
 use Rattle.header_reader.specs.Heads.{value_from}
 use Rattle.live.specs.Live.{Leaf, text, other, leaf_by, leaf_of, Live, leaf, nest, Lives, end, live_fields, live_of, live_elements, live_at}
 use Rattle.live.proofs.ChildLaws.{Part as Slice, value_there, Stands, stands_fits, value_part, among_stands, list_laid, object_laid, stands_live, start_parts}
-use Rattle.children.specs.Children.{is_list, is_object, element_parts, field_parts, parts_of, Holds, HoldsAll}
+use Rattle.header_reader.specs.Kinds.{is_list, is_object}
+use Rattle.children.specs.Children.{element_parts, field_parts, parts_of, Holds, HoldsAll}
 use Rattle.children.proofs.PartLaws.{list_only, object_only, parts_list, parts_object, parts_none}
 
 -- ---- a reading holds, and so do its parts

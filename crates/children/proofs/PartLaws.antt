@@ -3,22 +3,19 @@ use mathlib.Core.Path.{◌≡◌, refl, sym, ◌∙◌, ap}
 use mathlib.Core.Bool.{Bool, true, false, cond}
 use mathlib.Core.List.{List, [], ◌∷◌, ◌++◌}
 use mathlib.Core.Option.{none}
-use Prim.Native.Nat.{ℕ, zero, suc, ◌+◌, ◌*◌, ◌%◌, ◌≤◌, ◌<◌}
+use Prim.Native.Nat.{ℕ, zero, suc, ◌+◌, ◌%◌, ◌≤◌, ◌<◌}
 use native.Mathlib.Omega.{arith}
 use lib.ListN.{length, take, drop, get_or}
 use lib.Seq.{drop-cons, take-suc}
-use borrow.Author.Tests.{eqb-true, ne_eqb, lt-ltb}
+use borrow.Author.Tests.{eqb-true, ne_eqb, lt-ltb, le-ltb}
 use Rattle.metadata.specs.Names.{Name}
-use Rattle.container.specs.Layout.{count_size}
 use Rattle.lexicon.proofs.ByteLaws.{length_numbers}
-use Rattle.grammar.specs.Tests.{offset_width, id_width, list_large, list_table, list_count, list_offsets, list_from}
+use Rattle.grammar.specs.Tests.{offset_width, id_width, list_table, list_count, list_offsets, list_from}
 use Rattle.grammar.specs.Tests.{id_table, object_count, stored_ids, offset_table, object_offsets, object_from}
-use Rattle.header_reader.specs.Heads.{value_from}
-use Rattle.header_reader.proofs.TableLaws.{row_small}
-use Rattle.std.specs.Prelude.{Some}
-use Rattle.children.specs.declared.Kind.{Kind}
-use Rattle.children.specs.declared.Kind.TheVariants as kind
-use Rattle.children.specs.Children.{is_list, is_object, kind_of, child_bytes, Part, held_name, element_parts, field_parts, parts_of, no_part, part_at}
+use Rattle.header_reader.specs.Heads.{Head, value_from}
+use Rattle.std.specs.Prelude.{Some, None}
+use Rattle.header_reader.specs.Kinds.{is_list, is_object}
+use Rattle.children.specs.Children.{Counts, child_bytes, Part, held_name, element_parts, field_parts, parts_of, no_part, part_at}
 
 -- ---- by offsets, and by ids and offsets
 
@@ -151,61 +148,26 @@ module _ (names : List Name) (v : List ℕ) (k : ℕ) where
 
 -- ---- as the code counts and cuts
 
-module _ (v : List ℕ) {t : Kind} (e : t ≡ kind_of v) where
-  pub kind_list : t ≡ kind.List → is_list v ≡ true
-  kind_list q = go (is_list v) (is_object v) (sym q ∙ e)
-    where
-      go : (a b : Bool) → kind.List ≡ cond a kind.List (cond b kind.Object kind.Scalar) → a ≡ true
-      go true b h = refl
-      go false true h = absurd (cc)
-      go false false h = absurd (cc)
+-- a header's count and offsets are its children's
+module _ (v : List ℕ) {h : Head} where
+  pub list_counts : is_list v ≡ true → h.count ≡ list_count v → h.offsets ≡ list_offsets v → h.from ≡ list_from v → Counts v h
+  list_counts e n o f =
+      let many = n ∙ sym (list_many [] v e) in
+      record { count = many; bytes = λ k l. rw (o, f) (ap (λ (p : Part). p.bytes) (list_part [] v k e (rw many at l))) }
 
-  pub kind_object : t ≡ kind.Object → is_object v ≡ true
-  kind_object q = go (is_list v) (is_object v) (sym q ∙ e)
-    where
-      go : (a b : Bool) → kind.Object ≡ cond a kind.List (cond b kind.Object kind.Scalar) → b ≡ true
-      go true b h = absurd (cc)
-      go false true h = refl
-      go false false h = absurd (cc)
+  pub object_counts : is_object v ≡ true → h.count ≡ object_count v → h.offsets ≡ object_offsets v → h.from ≡ object_from v → Counts v h
+  object_counts e n o f =
+      let many = n ∙ sym (object_many [] v e) in
+      record { count = many; bytes = λ k l. rw (o, f) (ap (λ (p : Part). p.bytes) (object_part [] v k e (rw many at l))) }
 
-  pub kind_other : (t ≡ kind.List → ⊥) → is_list v ≡ false
-  kind_other q = go (is_list v) refl
-    where
-      go : (a : Bool) → is_list v ≡ a → is_list v ≡ false
-      go true h = absurd (q (e ∙ (rw h)))
-      go false h = h
+  module _ (c : Counts v h) {n k : ℕ} (m : n ≡ h.count) where
+    pub child_there : {from o : ℕ} {r : List ℕ} → k < n → from ≡ h.from → o ≡ get_or h.offsets k 0 → r ≡ value_from (from + o) v → Some r ≡ child_bytes v k
+    child_there {from} {o} {r} l f g e =
+        let b = c.bytes k (rw m at l) in
+        rw (lt-ltb k (length (parts_of [] v)) (rw (m ∙ c.count) at l)) (ap Some (rw (f, g) at e ∙ sym b))
 
-  pub kind_scalar : t ≡ kind.Scalar → (is_list v ≡ false) × (is_object v ≡ false)
-  kind_scalar q = go (is_list v) (is_object v) (sym q ∙ e)
-    where
-      go : (a b : Bool) → kind.Scalar ≡ cond a kind.List (cond b kind.Object kind.Scalar) → (a ≡ false) × (b ≡ false)
-      go true b h = absurd (cc)
-      go false true h = absurd (cc)
-      go false false h = (refl, refl)
+    pub child_behind : n ≤ k → None ≡ child_bytes v k
+    child_behind l = rw (le-ltb k (length (parts_of [] v)) (rw (m ∙ c.count) at l))
 
--- where a list's data begins is far below 2 ^ 64
-count_few : (big : Bool) → count_size big ≤ 4
-count_few true = omega arith
-count_few false = omega arith
-
-pub list_near : (v : List ℕ) → list_count v < 4294967296 → list_from v ≤ 5 + 4 * 4294967296
-list_near v h =
-    let w : offset_width v ≤ 4 = omega arith in
-    omega (arith, count_few (list_large v), row_small {w = offset_width v} {n = list_count v + 1} w (omega arith))
-
--- of n children, the one of number k
-module _ (v : List ℕ) {n k : ℕ} (c : n ≡ length (parts_of [] v)) (h : k < n) where
-  child_some : {r : List ℕ} → r ≡ (part_at [] v k).bytes → Some r ≡ child_bytes v k
-  child_some {r} e = rw (lt-ltb k (length (parts_of [] v)) (rw c at h), e)
-
-  -- what has children and is no list is an object
-  has_fields : (u : Bool) → is_object v ≡ u → is_list v ≡ false → is_object v ≡ true
-  has_fields true x y = x
-  has_fields false x y = absurd (omega (arith, h, c ∙ ap length (parts_none [] v y x)))
-
-  module _ {from o at : ℕ} {r : List ℕ} (q : at ≡ from + o) (m : r ≡ value_from at v) where
-    pub child_element : is_list v ≡ true → from ≡ list_from v → o ≡ get_or (list_offsets v) k 0 → Some r ≡ child_bytes v k
-    child_element e f g = child_some (rw (list_part [] v k e (rw c at h)) (rw (q, f, g) at m))
-
-    pub child_field : is_list v ≡ false → from ≡ object_from v → o ≡ get_or (object_offsets v) k 0 → Some r ≡ child_bytes v k
-    child_field e f g = child_some (rw (object_part [] v k (has_fields (is_object v) refl e) (rw c at h)) (rw (q, f, g) at m))
+pub child_none : (v : List ℕ) (k : ℕ) → parts_of [] v ≡ [] → None ≡ child_bytes v k
+child_none v k e = rw (le-ltb k (length (parts_of [] v)) (rw e (omega arith)))

@@ -1,27 +1,16 @@
 -- For the code: a value's live children, found in bytes that are not looked at otherwise: a list's elements and an object's fields, as the header has
 -- them. proofs/HoldLaws says that over a reading these are the children of its live tree.
-use Rattle.std.specs.Prelude.{Option as Maybe, Some, None, ◌≡◌, Bool, cond, List, [], ◌∷◌, ℕ, ◌+◌, ◌%◌, eqb, ltb, get_or, length}
+use Rattle.std.specs.Prelude.{Option as Maybe, Some, None, ◌≡◌, Bool, cond, List, [], ◌∷◌, ℕ, ◌+◌, ◌%◌, ◌<◌, eqb, ltb, get_or, length}
 use Rattle.std.proofs.Math.Option.{Option, none, some}
 use Rattle.metadata.specs.Names.{Name}
 use Rattle.container.specs.Sort.{name_at}
 use Rattle.grammar.specs.Grammar.{Shape, layout, Fits}
 use Rattle.grammar.specs.Tests.{list_from, list_offsets, object_from, object_offsets, stored_ids}
-use Rattle.header_reader.specs.Heads.{value_from}
-use Rattle.children.specs.declared.Kind.{Kind}
-use Rattle.children.specs.declared.Kind.TheVariants as kind
+use Rattle.header_reader.specs.Heads.{Head, value_from}
+use Rattle.header_reader.specs.Kinds.{is_list, is_object}
 use Rattle.live.specs.Live.{Live, Lives, end, child, live_of}
 
 -- ---- in bytes
-
--- a value's kind, by its first byte
-abbrev pub is_list : List ℕ → Bool
-is_list v = eqb (get_or v 0 0 % 4) 3
-
-abbrev pub is_object : List ℕ → Bool
-is_object v = eqb (get_or v 0 0 % 4) 2
-
-abbrev pub kind_of : List ℕ → Kind
-kind_of v = cond (is_list v) kind.List (cond (is_object v) kind.Object kind.Scalar)
 
 -- a child: its name, which an element has not, and its bytes
 pub record Part : Type 0 where
@@ -56,6 +45,11 @@ part_at names v k = get_or (parts_of names v) k no_part
 -- its bytes, if there is such a child; they do not depend on the names
 abbrev pub child_bytes : List ℕ → ℕ → Maybe (List ℕ)
 child_bytes v k = cond (ltb k (length (parts_of [] v))) (Some (part_at [] v k).bytes) None
+
+-- a header counts them, and by its offsets says where each lies
+pub record Counts (v : List ℕ) (h : Head) : Type 0 where
+  pub count : h.count ≡ length (parts_of [] v)
+  pub bytes : (k : ℕ) → k < h.count → (part_at [] v k).bytes ≡ value_from (h.from + get_or h.offsets k 0) v
 
 -- ---- over a reading
 

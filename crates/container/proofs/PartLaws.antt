@@ -1,21 +1,22 @@
 -- Entries in a part of the numbers, and written in a row: the sort of a part is a part of the sort of all.
 use mathlib.Core.Path.{◌≡◌, refl, sym, ◌∙◌, ap}
-use mathlib.Core.List.{List, [], ◌∷◌, ◌++◌, append_assoc}
+use mathlib.Core.List.{List, [], ◌∷◌, ◌++◌}
 use Prim.Native.Nat.{ℕ, zero, suc, ◌+◌, ◌-◌, ◌*◌, ◌/◌, ◌≤◌, ◌<◌}
 use native.Mathlib.Omega.{arith}
-use lib.ListN.{get_or, set, length, take, drop, length-append, length-take, length-drop, take-append-drop}
-use lib.Seq.{drop-drop, drop-cons}
+use lib.ListN.{get_or, set, length, take, drop, length-append, length-take, length-drop}
+use lib.Seq.{drop-cons}
 use borrow.Rule.Slice.PartMut.{put_mid}
 use Rattle.std.specs.List.{copy_within}
-use Rattle.std.proofs.lemmas.List.{drop-append-le, get_or-take, get_or-drop}
+use Rattle.std.proofs.lemmas.List.{get_or-take, get_or-drop}
 use Rattle.encoding.specs.Slices.{write}
 use Rattle.encoding.proofs.SliceLaws.{length_write, write_none, write_one, write_write}
 use Rattle.metadata.specs.Names.{Name}
+use Rattle.metadata.proofs.FinishLaws.{write_part}
 use Rattle.container.specs.declared.Entry.{Entry}
 use Rattle.container.specs.Entries.{entries_of, entry_at, put_entries, set_entry}
 use Rattle.container.specs.Sort.{insert, sort, moved_up, inserted, sorted_in}
 use Rattle.container.specs.Undo.{replay, undone_from}
-use Rattle.container.proofs.EntryLaws.{length_entries}
+use Rattle.container.proofs.EntryLaws.{entries_put_same, length_entries}
 use Rattle.container.proofs.UndoLaws.{length_replay}
 use Rattle.container.proofs.SortLaws.{length_insert, length_sort}
 
@@ -36,7 +37,8 @@ flat_append (e ∷ es) fs = ap (λ l. e.id ∷ e.offset ∷ l) (flat_append es f
 set_flat : (l : List ℕ) (k : ℕ) (e : Entry) → 2 * (k + 1) ≤ length l → set_entry l k e ≡ write (2 * k) (e.id ∷ e.offset ∷ []) l
 set_flat l k e h =
     let w = length_write (2 * k) (e.id ∷ []) l (omega arith) in
-    rw (write_one l (2 * k) e.id (omega arith)) (write_one (write (2 * k) (e.id ∷ []) l) (2 * k + 1) e.offset (omega arith) ∙ write_write l (e.id ∷ []) (e.offset ∷ []) (2 * k) (omega arith))
+    rw (write_one l (2 * k) e.id (omega arith))
+    (write_one (write (2 * k) (e.id ∷ []) l) (2 * k + 1) e.offset (omega arith) ∙ write_write l (e.id ∷ []) (e.offset ∷ []) (2 * k) (omega arith))
 
 pub put_flat : (k : ℕ) (es : List Entry) (l : List ℕ) → 2 * (k + length es) ≤ length l → put_entries k es l ≡ write (2 * k) (flat es) l
 unfolding put_entries
@@ -61,16 +63,6 @@ flat_entries l k (suc n) h =
     rw (a, b, c, d, e, flat_entries l (k + 1) n (omega arith)) refl
 
 -- ---- a part
-
-write_part : (a s : ℕ) (l bs : List ℕ) → length bs ≤ s → a + s ≤ length l → put_mid a s l (write 0 bs (take s (drop a l))) ≡ write a bs l
-unfolding write
-write_part a s l bs h r =
-    let rest = drop a l in
-    let n = length bs in
-    let k : length (take s rest) ≡ s = length-take s rest ∙ omega (arith, length-drop a l) in
-    let e : drop n (take s rest) ++ drop s rest ≡ drop n rest = sym (drop-append-le n (take s rest) (drop s rest) (omega arith)) ∙ ap (drop n) (take-append-drop s rest) in
-    let z : 0 + n ≡ n = omega arith in
-    rw z (ap (λ t. take a l ++ t) (append_assoc bs (drop n (take s rest)) (drop s rest) ∙ ap (λ t. bs ++ t) (e ∙ drop-drop n a l)))
 
 module _ (a s : ℕ) (l : List ℕ) where
   abbrev part : List ℕ
@@ -99,7 +91,8 @@ module _ (a s : ℕ) (l : List ℕ) where
 
 -- the sort of a part is its part of the sort of all
 pub sorted_part : (names : List Name) (from to : ℕ) (l : List ℕ) {ys : List ℕ} → from ≤ to → 2 * to ≤ length l
-    → (let rest = take (2 * to - 2 * from) (drop (2 * from) l) in ys ≡ sorted_in names 0 (length rest / 2) rest) → put_mid (2 * from) (2 * to - 2 * from) l ys ≡ sorted_in names from to l
+    → (let rest = take (2 * to - 2 * from) (drop (2 * from) l) in ys ≡ sorted_in names 0 (length rest / 2) rest)
+    → put_mid (2 * from) (2 * to - 2 * from) l ys ≡ sorted_in names from to l
 unfolding sorted_in
 sorted_part names from to l h r y =
     let s = 2 * to - 2 * from in
@@ -110,8 +103,24 @@ sorted_part names from to l h r y =
     let f : from + 0 ≡ from = omega arith in
     rw (y, z, part_entries from s l 0 (to - from) (omega arith), f) (part_put from s l es (omega arith) (omega arith))
 
+-- the entries that it leaves there
+pub sorted_read : (names : List Name) (from to : ℕ) (l : List ℕ) {ys : List ℕ} → from ≤ to → 2 * to ≤ length l
+    → (let rest = take (2 * to - 2 * from) (drop (2 * from) l) in ys ≡ sorted_in names 0 (length rest / 2) rest)
+    → entries_of ys 0 (to - from) ≡ sort names (entries_of l from (to - from))
+unfolding sorted_in
+sorted_read names from to l h r y =
+    let s = 2 * to - 2 * from in
+    let rest = take s (drop (2 * from) l) in
+    let es = sort names (entries_of l from (to - from)) in
+    let k : length es ≡ to - from = length_sort names (entries_of l from (to - from)) ∙ length_entries l from (to - from) in
+    let t : length rest ≡ s = length-take s (drop (2 * from) l) ∙ omega (arith, length-drop (2 * from) l) in
+    let z : length rest / 2 - 0 ≡ to - from = omega arith in
+    let f : from + 0 ≡ from = omega arith in
+    rw (y, z, part_entries from s l 0 (to - from) (omega arith), f) (rw k at (entries_put_same 0 es rest (omega arith)))
+
 -- an entry put among those behind it, likewise
-pub inserted_part : (names : List Name) (j to n s : ℕ) (l : List ℕ) {ys : List ℕ} → j < to → 2 * j + s ≤ length l → 2 * (to - j) ≤ s → n ≡ to - j → ys ≡ inserted names 0 n (take s (drop (2 * j) l))
+pub inserted_part : (names : List Name) (j to n s : ℕ) (l : List ℕ) {ys : List ℕ} → j < to → 2 * j + s ≤ length l → 2 * (to - j) ≤ s → n ≡ to - j
+    → ys ≡ inserted names 0 n (take s (drop (2 * j) l))
     → put_mid (2 * j) s l ys ≡ inserted names j to l
 unfolding inserted
 inserted_part names j to n s l h r q e y =
@@ -127,7 +136,8 @@ pub tail_length : (j : ℕ) (l : List ℕ) → length (take (length l - 2 * j) (
 tail_length j l = length-take (length l - 2 * j) (drop (2 * j) l) ∙ omega (arith, length-drop (2 * j) l)
 
 -- those behind entry j in order, as they stand there
-pub tail_held : (names : List Name) (j to : ℕ) (l : List ℕ) → j < to → to ≡ length l / 2 → sort names (entries_of l (j + 1) (to - (j + 1))) ≡ entries_of l (j + 1) (to - (j + 1))
+pub tail_held : (names : List Name) (j to : ℕ) (l : List ℕ) → j < to → to ≡ length l / 2
+    → sort names (entries_of l (j + 1) (to - (j + 1))) ≡ entries_of l (j + 1) (to - (j + 1))
     → let rest = take (length l - 2 * j) (drop (2 * j) l) in let n = length rest / 2 - 1 in sort names (entries_of rest 1 n) ≡ entries_of rest 1 n
 tail_held names j to l h e k =
     let s = length l - 2 * j in
@@ -145,7 +155,8 @@ copied l k h =
     let e : 2 * (k + 1) - 2 ≡ 2 * k = omega arith in
     rw (e, n) refl
 
-pub first_moved : (l : List ℕ) (k : ℕ) → 2 * (k + 1) ≤ length l → set (set (copy_within l 2 (2 * (k + 1)) 0) (2 * k) (get_or l 0 0)) (2 * k + 1) (get_or l 1 0) ≡ moved_up 0 k l
+pub first_moved : (l : List ℕ) (k : ℕ) → 2 * (k + 1) ≤ length l
+    → set (set (copy_within l 2 (2 * (k + 1)) 0) (2 * k) (get_or l 0 0)) (2 * k + 1) (get_or l 1 0) ≡ moved_up 0 k l
 unfolding moved_up
 first_moved l k h =
     let bs = take (2 * k) (drop 2 l) in
@@ -159,8 +170,10 @@ first_moved l k h =
     let q = length_entries l (0 + 1) (k - 0) in
     let t : flat (es ++ (e ∷ [])) ≡ bs ++ (e.id ∷ e.offset ∷ []) = flat_append es (e ∷ []) ∙ ap (λ x. x ++ (e.id ∷ e.offset ∷ [])) f in
     let a : 2 * k ≡ 0 + length bs = omega arith in
-    let c : set_entry (write 0 bs l) k e ≡ write (0 + length bs) (e.id ∷ e.offset ∷ []) (write 0 bs l) = set_flat (write 0 bs l) k e (omega arith) ∙ ap (λ i. write i (e.id ∷ e.offset ∷ []) (write 0 bs l)) a in
-    rw (copied l k h) (c ∙ (write_write l bs (e.id ∷ e.offset ∷ []) 0 (omega arith) ∙ (ap (λ x. write 0 x l) (sym t) ∙ sym (put_flat 0 (es ++ (e ∷ [])) l (omega arith)))))
+    let c : set_entry (write 0 bs l) k e ≡ write (0 + length bs) (e.id ∷ e.offset ∷ []) (write 0 bs l) =
+    set_flat (write 0 bs l) k e (omega arith) ∙ ap (λ i. write i (e.id ∷ e.offset ∷ []) (write 0 bs l)) a in
+    rw (copied l k h)
+    (c ∙ (write_write l bs (e.id ∷ e.offset ∷ []) 0 (omega arith) ∙ (ap (λ x. write 0 x l) (sym t) ∙ sym (put_flat 0 (es ++ (e ∷ [])) l (omega arith)))))
 
 -- ---- the records undone in a part of the entries are those undone in all
 
@@ -179,4 +192,5 @@ undone_part l undo from to low high h r g q y =
     let x : length (take v (drop (2 * low) undo)) / 2 - 0 ≡ high - low = omega arith in
     let f : from + 0 ≡ from = omega arith in
     let d : low + 0 ≡ low = omega arith in
-    rw (y, z, x, part_entries from s l 0 (to - from) (omega arith), part_entries low v undo 0 (high - low) (omega arith), f, d) (part_put from s l es (omega arith) (omega arith))
+    rw (y, z, x, part_entries from s l 0 (to - from) (omega arith), part_entries low v undo 0 (high - low) (omega arith), f, d)
+    (part_put from s l es (omega arith) (omega arith))

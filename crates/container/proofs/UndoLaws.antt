@@ -1,19 +1,22 @@
 -- Undo records: replaying, and the loop over them from the newest down, each a search and at most one number set.
 use mathlib.Core.Path.{◌≡◌, refl, sym, ◌∙◌, ap, subst}
 use mathlib.Core.Logic.{inl, ◌≢◌}
-use mathlib.Core.Bool.{Bool, true, false, cond}
+use mathlib.Core.Bool.{Bool, true, false, cond, true≢false}
 use mathlib.Core.List.{List, [], ◌∷◌, ◌++◌}
-use Prim.Native.Nat.{ℕ, zero, suc, ◌+◌, ◌-◌, ◌*◌, ◌≤◌, ◌<◌, min}
+use Prim.Native.Nat.{ℕ, zero, suc, ◌+◌, ◌-◌, ◌*◌, ◌≤◌, ◌<◌}
 use native.Mathlib.Nat.{add-zero}
 use native.Mathlib.Omega.{arith}
 use lib.Dec.{eqb, leb, ltb}
 use lib.ListN.{get_or, length, length-set, set}
 use lib.Seq.{get_or-set_other, get_or-set_same}
 use borrow.Author.Tests.{ltb-true, ltb-false, le-ltb, lt-ltb, le-leb, lt-leb}
+use Rattle.std.specs.Prelude.{Option, None, Some, MatchOption}
+use Rattle.std.specs.List.{find, range_with_len}
+use Rattle.std.specs.Option.{is_some, option_map, unwrap_or}
 use Rattle.container.specs.declared.Entry.{Entry}
-use Rattle.container.specs.Entries.{entries_of, entry_at, put_entries, range_of, room_for, seek}
+use Rattle.container.specs.Entries.{entries_of, entry_at, put_entries, room_for, seek}
 use Rattle.container.specs.Undo.{restore, replay, undone_from, undone_in, undone_once}
-use Rattle.container.proofs.EntryLaws.{Apart, entries_set_other, length_entries, entries_append, put_self, put_over, set_entry_offset, seeks}
+use Rattle.container.proofs.EntryLaws.{Apart, entries_set_other, length_entries, entries_append, put_self, put_over, seek_bound, set_entry_offset, seeks}
 
 -- ---- records undone
 
@@ -185,32 +188,55 @@ undoing_end {l} {from} {to} {undo} {low} {h} x g =
     let e : h - low ≡ 0 = omega arith in
     sym (put_self l from (to - from)) ∙ (rw e at x.left).left
 
--- ---- one record, as the search finds its entry
+-- ---- one record, as the look-up finds its entry
 
-module _ (l : List ℕ) (from to : ℕ) (u : Entry) (place : ℕ) (p : (from ≤ to) × (2 * to ≤ length l))
-    (e : place ≡ from + seek u.id (range_of l from to)) where
-  place_is : place ≡ from + seek u.id (entries_of l from (to - from))
-  place_is =
-      let a = p.1 in
-      let m : min to (room_for (length l)) ≡ to = omega arith in
-      e ∙ ap (λ z. from + seek u.id (entries_of l from (z - from))) m
+-- is this the entry of an id?
+abbrev pub is_of : ℕ → List ℕ → ℕ → Bool
+is_of id l k = eqb (get_or l (2 * k) 0) id
 
-  pub once_found : place < to → set l (2 * place + 1) u.offset ≡ undone_once l from (to - from) u
+find_seek : (id : ℕ) (l : List ℕ) (k n : ℕ)
+    → let s = seek id (entries_of l k n) in find (is_of id l) (range_with_len k n) ≡ cond (ltb s n) (Some (k + s)) None
+unfolding entries_of seek
+find_seek id l k zero = refl
+find_seek id l k (suc n) = go (is_of id l k) (find_seek id l (k + 1) n)
+  where
+    s : ℕ
+    s = seek id (entries_of l (k + 1) n)
+
+    below : (t : Bool) → ltb s n ≡ t → ltb (1 + s) (suc n) ≡ ltb s n
+    below true t = rw t (lt-ltb (1 + s) (suc n) (omega (arith, ltb-true s n t)))
+    below false t = rw t (le-ltb (1 + s) (suc n) (omega (arith, ltb-false s n t)))
+
+    go : (t : Bool) → find (is_of id l) (range_with_len (k + 1) n) ≡ cond (ltb s n) (Some (k + 1 + s)) None
+        → cond t (Some k) (find (is_of id l) (range_with_len (k + 1) n)) ≡ cond (ltb (cond t 0 (1 + s)) (suc n)) (Some (k + cond t 0 (1 + s))) None
+    go true f = rw (add-zero k, lt-ltb 0 (suc n) (omega arith)) refl
+    go false f =
+        let p : k + (1 + s) ≡ k + 1 + s = omega arith in
+        rw (p, below (ltb s n) refl) f
+
+pub found_first : (id : ℕ) (l : List ℕ) (n : ℕ) (o : Option ℕ) → option_map (λ x. x) o ≡ find (is_of id l) (range_with_len 0 n)
+    → let s = seek id (entries_of l 0 n) in MatchOption o (s ≡ n) (λ p. (p ≡ s) × (s < n))
+found_first id l n o e = go (ltb s n) o refl (e ∙ find_seek id l 0 n)
+  where
+    s : ℕ
+    s = seek id (entries_of l 0 n)
+
+    go : (t : Bool) (o : Option ℕ) → ltb s n ≡ t → option_map (λ x. x) o ≡ cond t (Some (0 + s)) None → MatchOption o (s ≡ n) (λ p. (p ≡ s) × (s < n))
+    go true None t e = absurd (true≢false (sym (ap is_some e)))
+    go true (Some p) t e = let q : p ≡ 0 + s = ap (λ o. unwrap_or o 0) e in (omega arith, ltb-true s n t)
+    go false None t e = let a = seek_bound id l 0 n in omega (arith, ltb-false s n t)
+    go false (Some p) t e = absurd (true≢false (ap is_some e))
+
+module _ (l : List ℕ) (n : ℕ) (u : Entry) where
+  pub once_found : (k : ℕ) → (k ≡ seek u.id (entries_of l 0 n)) × (seek u.id (entries_of l 0 n) < n) → set l (2 * k + 1) u.offset ≡ undone_once l 0 n u
   unfolding undone_once
-  once_found h =
-      let f = place_is in
-      let s = seek u.id (entries_of l from (to - from)) in
-      let g : ltb s (to - from) ≡ true = lt-ltb s (to - from) (omega arith) in
-      rw g (ap (λ z. set l (2 * z + 1) u.offset) f)
+  once_found k e =
+      let z : 0 + seek u.id (entries_of l 0 n) ≡ seek u.id (entries_of l 0 n) = omega arith in
+      rw (e.0, lt-ltb (seek u.id (entries_of l 0 n)) n e.1, z)
 
-  pub once_passed : to ≤ place → l ≡ undone_once l from (to - from) u
+  pub once_passed : seek u.id (entries_of l 0 n) ≡ n → l ≡ undone_once l 0 n u
   unfolding undone_once
-  once_passed h =
-      let a = p.0 in
-      let f = place_is in
-      let s = seek u.id (entries_of l from (to - from)) in
-      let g : ltb s (to - from) ≡ false = le-ltb s (to - from) (omega arith) in
-      rw g
+  once_passed e = rw (le-ltb (seek u.id (entries_of l 0 n)) n (omega arith))
 
 -- ---- the tests before the loop
 

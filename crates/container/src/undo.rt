@@ -1,31 +1,34 @@
 // Undo records in lent numbers: two numbers each, an id and a former offset, the newest last.
-ghost use Rattle.std.specs.Prelude.{◌≡◌, ◌/◌, length};
+ghost use Rattle.std.specs.Prelude.{◌≡◌, ◌/◌, ◌<◌, MatchOption, length};
+ghost use Rattle.container.specs.Entries.{entries_of, seek};
 ghost use Rattle.container.specs.Undo.{undone_from, undone_in, undone_once};
 
 use crate::Entry;
-use crate::entries::{replace_offset, search_entries};
+use std::ops::Range;
 
-// The records from `low` up to `high` undone, the newest first, among the entries from `from` up to `to`: the first entry of a
-// record's id gets its offset; a record without one is passed over. Counts that exceed what is lent undo nothing: no slices here.
+// The records of one range undone, the newest first, among the entries of the other: the first entry of a record's id gets its
+// offset; a record without one is passed over. Ranges that exceed what is lent undo nothing: no slices here.
 pub fn undo_entries(
     entries: &mut [usize],
-    from: usize,
-    to: usize,
+    fields: Range<usize>,
     undo: &[usize],
-    low: usize,
-    high: usize,
+    records: Range<usize>,
 )
-    ensures { entries.new ≡ undone_in entries.old from to undo.now low high }
+    ensures { entries.new ≡ undone_in entries.old fields.start fields.end undo.now records.start records.end }
 {
-    if to < from || entries.len() / 2 < to {
+    if fields.end < fields.start || entries.len() / 2 < fields.end {
         return;
     }
-    if high <= low || undo.len() / 2 < high {
+    if records.end <= records.start || undo.len() / 2 < records.end {
         return;
     }
-    undo_records(&mut entries[2 * from..2 * to], &undo[2 * low..2 * high]);
+    undo_records(
+        &mut entries[2 * fields.start..2 * fields.end],
+        &undo[2 * records.start..2 * records.end],
+    );
 }
 
+// Kept (3; no plainer): a record is two of the lent numbers; the definition and its laws count records, not pairs.
 fn undo_records(entries: &mut [usize], undo: &[usize])
     ensures { entries.new ≡ undone_from entries.old 0 (length entries.old / 2) undo.now 0 (length undo.now / 2) }
 {
@@ -41,9 +44,14 @@ fn undo_records(entries: &mut [usize], undo: &[usize])
 fn undo_one(entries: &mut [usize], u: Entry)
     ensures { entries.new ≡ undone_once entries.old 0 (length entries.old / 2) u }
 {
-    let n = entries.len() / 2;
-    let s = search_entries(entries, 0, n, false, 0, 0, u.id);
-    if s.place < n {
-        let _former = replace_offset(entries, s.place, u.offset);
+    if let Some(k) = place_of(entries, u.id) {
+        entries[2 * k + 1] = u.offset;
     }
+}
+
+// Where the first entry of an id stands.
+fn place_of(entries: &[usize], id: usize) -> Option<usize>
+    ensures { let n = length entries.now / 2 in let k = seek id (entries_of entries.now 0 n) in MatchOption result (k ≡ n) (λ p. (p ≡ k) × (k < n)) }
+{
+    (0..entries.len() / 2).find(|k| entries[2 * k] == id)
 }

@@ -5,199 +5,98 @@
 // The file `stdout` was not made by this program but by a model of document 01 written apart from this code.
 #![tactic(auto)]
 
-use builder::{append_bytes, append_value, close, finish, new, new_list, new_object};
-use semantics::{Builder, Refusal};
+use builder::{Scalar, new};
+use builder_mut::VariantBuilder;
+use semantics::Refusal;
 use std::io;
 use std::io::Write;
 use value::decimal::VariantDecimal4;
-use value::variant::{Variant, VariantBytes};
-
-// The builder, and the storage that it is lent.
-#[derive(Drop)]
-struct Scan {
-    builder: Builder,
-    marks: [usize; 7168],
-    value: [u8; 78],
-    text: [u8; 52],
-    ends: [usize; 8],
-    entries: [usize; 16],
-}
+use value::variant::{OfKind, Variant, VariantBytes};
 
 fn main(rt: HostRuntime) -> io::Result<()> {
     let to = &mut io::writer(&rt);
-    let mut scan = Scan {
-        builder: new(true),
-        marks: [0; 7168],
-        value: [0; 78],
-        text: [0; 52],
-        ends: [0; 8],
-        entries: [0; 16],
+    let mut scan = VariantBuilder {
+        builder: &mut new(true),
+        marks: &mut [0; 7168],
+        value: &mut [0; 78],
+        text: &mut [0; 52],
+        ends: &mut [0; 8],
+        entries: &mut [0; 16],
+        undo: &mut [],
     };
-    scan.object(to)?;
-    scan.fields(to)?;
-    // The weights of the last three readings, in tenths of a kilogram.
-    scan.list(to, "readings")?;
-    for n in [4131, 4128, 4125] {
-        scan.reading(to, n)?;
-    }
-    scan.closed(to)?;
+    told(to, "object", scan.new_object(None))?;
+    fields(to, &mut scan)?;
+    readings(to, &mut scan)?;
     let fields = scan.builder.counts.entries;
-    scan.closed(to)?;
-    scan.finished(to, fields)
+    told(to, "close", scan.close())?;
+    finished(to, &mut scan, fields)
 }
 
-impl Scan {
-    fn fields<W: Write>(&mut self, to: &mut W) -> io::Result<()> {
-        // 412.5 kg.
-        let weight = VariantDecimal4 {
-            integer: 4125,
-            scale: 1,
-        };
-        // On 14 August 2024, in days since 1970.
-        let born = 19_949;
-        // On 5 March 2026 at 07:42:18.25 UTC, in microseconds since 1970.
-        let scanned = 1_772_696_538_250_000;
-        // 38.6 degrees Celsius, as the bits of a float.
-        let temperature = 0x421A_6666;
-        // Plain text, stored as short text up to 63 bytes.
-        self.text(to, "tag", VariantBytes::Text, b"999000000012345")?;
-        self.field(to, "weight", Variant::Decimal4(weight))?;
-        self.text(to, "sex", VariantBytes::ShortString, b"F")?;
-        self.field(to, "born", Variant::Date(born))?;
-        self.field(to, "scanned", Variant::TimestampMicros(scanned))?;
-        self.field(to, "temperature", Variant::Float(temperature))?;
-        self.field(to, "vaccinated", Variant::BooleanTrue)
-    }
+fn fields<W: Write>(to: &mut W, scan: &mut VariantBuilder) -> io::Result<()> {
+    // Plain text, stored as short text up to 63 bytes.
+    let tag = OfKind {
+        kind: VariantBytes::Text,
+        bytes: b"999000000012345",
+    };
+    // 412.5 kg.
+    let weight = VariantDecimal4 {
+        integer: 4125,
+        scale: 1,
+    };
+    let sex = OfKind {
+        kind: VariantBytes::ShortString,
+        bytes: b"F",
+    };
+    // On 14 August 2024, in days since 1970.
+    let born = 19_949;
+    // On 5 March 2026 at 07:42:18.25 UTC, in microseconds since 1970.
+    let scanned = 1_772_696_538_250_000;
+    // 38.6 degrees Celsius, as the bits of a float.
+    let temperature = 0x421A_6666;
+    field(to, scan, "tag", tag)?;
+    field(to, scan, "weight", Variant::Decimal4(weight))?;
+    field(to, scan, "sex", sex)?;
+    field(to, scan, "born", Variant::Date(born))?;
+    field(to, scan, "scanned", Variant::TimestampMicros(scanned))?;
+    field(to, scan, "temperature", Variant::Float(temperature))?;
+    field(to, scan, "vaccinated", Variant::BooleanTrue)
+}
 
-    fn object<W: Write>(&mut self, to: &mut W) -> io::Result<()> {
-        let called = new_object(
-            self.builder,
-            &self.marks,
-            &self.value,
-            &mut self.text,
-            &mut self.ends,
-            &mut self.entries,
-            &mut [],
-            false,
-            b"",
-        );
-        self.after(to, "object", called)
-    }
+fn field<X: Scalar, W: Write>(
+    to: &mut W,
+    scan: &mut VariantBuilder,
+    name: &str,
+    x: X,
+) -> io::Result<()> {
+    told(to, name, scan.append(Some(name.as_bytes()), x))
+}
 
-    // A list, open until it is closed.
-    fn list<W: Write>(&mut self, to: &mut W, name: &str) -> io::Result<()> {
-        let called = new_list(
-            self.builder,
-            &self.marks,
-            &self.value,
-            &mut self.text,
-            &mut self.ends,
-            &mut self.entries,
-            &mut [],
-            true,
-            name.as_bytes(),
-        );
-        self.after(to, name, called)
+// The weights of the last three readings, in tenths of a kilogram: a list, open until it is closed.
+fn readings<W: Write>(to: &mut W, scan: &mut VariantBuilder) -> io::Result<()> {
+    told(to, "readings", scan.new_list(Some(b"readings")))?;
+    for n in [4131, 4128, 4125] {
+        told(to, "reading", scan.append(None, Variant::Int16(n)))?;
     }
+    told(to, "close", scan.close())
+}
 
-    fn field<W: Write>(&mut self, to: &mut W, name: &str, x: Variant) -> io::Result<()> {
-        let called = self.appended(true, name, x);
-        self.after(to, name, called)
-    }
+// The call's line.
+fn told<W: Write>(to: &mut W, what: &str, called: Result<(), Refusal>) -> io::Result<()> {
+    let number = called.err().map_or(0, |e| e.number());
+    writeln!(to, "{what} {number}")
+}
 
-    fn reading<W: Write>(&mut self, to: &mut W, n: i16) -> io::Result<()> {
-        let called = self.appended(false, "", Variant::Int16(n));
-        self.after(to, "reading", called)
-    }
-
-    fn appended(&mut self, named: bool, name: &str, x: Variant) -> Result<Builder, Refusal> {
-        append_value(
-            self.builder,
-            &self.marks,
-            &mut self.value,
-            &mut self.text,
-            &mut self.ends,
-            &mut self.entries,
-            &mut [],
-            named,
-            name.as_bytes(),
-            x,
-        )
-    }
-
-    fn text<W: Write>(
-        &mut self,
-        to: &mut W,
-        name: &str,
-        kind: VariantBytes,
-        bytes: &[u8],
-    ) -> io::Result<()> {
-        let called = append_bytes(
-            self.builder,
-            &self.marks,
-            &mut self.value,
-            &mut self.text,
-            &mut self.ends,
-            &mut self.entries,
-            &mut [],
-            true,
-            name.as_bytes(),
-            kind,
-            bytes,
-        );
-        self.after(to, name, called)
-    }
-
-    fn closed<W: Write>(&mut self, to: &mut W) -> io::Result<()> {
-        let called = close(
-            self.builder,
-            &self.marks,
-            &mut self.value,
-            &self.text,
-            &self.ends,
-            &mut self.entries,
-            &[],
-        );
-        self.after(to, "close", called)
-    }
-
-    // The call's line, and the builder after it, which a refused call leaves as it was.
-    fn after<W: Write>(
-        &mut self,
-        to: &mut W,
-        what: &str,
-        called: Result<Builder, Refusal>,
-    ) -> io::Result<()> {
-        match called {
-            Ok(builder) => {
-                self.builder = builder;
-                writeln!(to, "{what} 0")
-            }
-            Err(e) => writeln!(to, "{what} {}", e.number()),
+fn finished<W: Write>(to: &mut W, scan: &mut VariantBuilder, fields: usize) -> io::Result<()> {
+    let mut dictionary = [0u8; 63];
+    match scan.finish(&mut dictionary) {
+        Ok(written) => {
+            write!(to, "finish 0\nfields {fields}\nvalue ")?;
+            let used = scan.builder.counts.value;
+            print::hex(to, scan.value, used)?;
+            write!(to, "\ndictionary ")?;
+            print::hex(to, &dictionary, written)?;
+            writeln!(to)
         }
-    }
-
-    fn finished<W: Write>(&mut self, to: &mut W, fields: usize) -> io::Result<()> {
-        let mut out = [0u8; 63];
-        let done = finish(
-            self.builder,
-            &self.marks,
-            &self.value,
-            &self.text,
-            &self.ends,
-            &self.entries,
-            &[],
-            &mut out,
-        );
-        match done {
-            Ok(f) => {
-                write!(to, "finish 0\nfields {fields}\nvalue ")?;
-                print::hex(to, &self.value, f.builder.counts.value)?;
-                write!(to, "\ndictionary ")?;
-                print::hex(to, &out, f.written)?;
-                writeln!(to)
-            }
-            Err(e) => writeln!(to, "finish {}", e.number()),
-        }
+        Err(e) => writeln!(to, "finish {}", e.number()),
     }
 }

@@ -126,7 +126,8 @@ first_both ns (r ∷ own) b o = go r.test (listed_some r.number ns (ordered ns r
     go false h e = e
 
 -- and one row, of the number that they give, may stand for them
-pub first_own : (ns : List ℕ) (a own b : List Row) → in_order ns own ≡ true → first (a ++ (own ++ b)) ≡ first (a ++ (row (first own) (not (eqb (first own) 0)) ∷ b))
+pub first_own : (ns : List ℕ) (a own b : List Row) → in_order ns own ≡ true
+    → first (a ++ (own ++ b)) ≡ first (a ++ (row (first own) (not (eqb (first own) 0)) ∷ b))
 unfolding first
 first_own ns [] own b o = first_both ns own b o
 first_own ns (r ∷ a) own b o = ap (cond r.test r.number) (first_own ns a own b o)

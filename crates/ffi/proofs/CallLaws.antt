@@ -3,7 +3,8 @@ use mathlib.Core.Path.{◌≡◌, refl, sym, ◌∙◌, ap, subst}
 use mathlib.Core.Bool.{Bool, true, false}
 use mathlib.Core.List.{List}
 use mathlib.Core.Option.{Option, some}
-use Rattle.std.specs.Prelude.{Result, Ok, Err, IsOk}
+use Rattle.std.specs.Prelude.{Result, Ok, Err, IsOk, Option as Optional}
+use Rattle.container.specs.declared.Entry.{Entry}
 use Rattle.semantics.specs.declared.refusal.Refusal.{Refusal}
 use Rattle.semantics.specs.Refusal.{number_told, refusal_number}
 use Rattle.semantics.proofs.RefusalLaws.{number_some}
@@ -20,13 +21,11 @@ use Rattle.metadata.specs.Names.{Name}
 use Rattle.semantics.specs.declared.Builder.{Builder}
 use Rattle.semantics.specs.declared.Container.{Container}
 use Rattle.semantics.specs.declared.Mark.{Mark}
-use Rattle.semantics.specs.declared.ParentEntry.{ParentEntry}
 use Rattle.semantics.specs.declared.View.{View}
 use Rattle.semantics.specs.Record.{Storage, Call, Scalars, append, register, scalar_of, open_in, close, roll_back, uniqueness, set_mark, return_to, finish, chained, container_at, good_floor, is_open, mark_at, no_container, no_mark, slot_of, view_of, storage_of, table_size}
 use Rattle.semantics.specs.Damage.{damaged, over_used, unchained}
 use Rattle.semantics.specs.Table.{scalar_rows, number_of}
 use Rattle.refusals.specs.Decide.{enter_rows, size_told}
-use Rattle.refusals.proofs.RowLaws.{own_zero}
 use Rattle.semantics.specs.Run.{Fresh, fresh_counts}
 use Rattle.semantics.specs.Step.{step, after, containers_after, mark_to, marks_after, put_mark, returned, with_marks}
 use Rattle.semantics.proofs.Demand1.{none_at}
@@ -40,12 +39,12 @@ use Rattle.actions.specs.declared.Ended.{Ended}
 use Rattle.actions.specs.declared.enter.Entered.{Entered}
 use Rattle.actions.specs.Actions.{EntersBy, Leaves, Returns, SetsMark, SetsUnique, Ends, child_of, elements_put, entries_put, moved_by, parent_put, undo_put}
 use Rattle.actions.proofs.EnterLaws.{enter_clears}
-use Rattle.actions.proofs.AppendLaws.{append_stays, append_writes}
+use Rattle.actions.specs.Append.{OwnBytes, size_by}
+use Rattle.actions.proofs.AppendLaws.{append_stays, append_writes, own_entered, own_number, own_size}
 use Rattle.actions.proofs.MarkLaws.{return_reachable}
 use Rattle.actions.proofs.OpenLaws.{opens, opens_refused, registers, registers_refused}
 use Rattle.actions.proofs.UniqueLaws.{unique_open}
 use Rattle.actions.proofs.ElementLaws.{Stays, elements_left_lem, elements_opened}
-use Rattle.ffi.specs.Scalars.{OwnBytes, size_by}
 use Rattle.ffi.specs.Words.{builder_of, container_left, containers_of, counts_of, elements_of, inner_left, state_of, words_left, DoesWords, EntersWords, FinishesWords, Puts, PutsContainer, PutsCounts, PutsElements, PutsInner}
 use Rattle.ffi.proofs.WordLaws.{containers_length, elements_length}
 
@@ -148,47 +147,31 @@ module _ (ws ms : List ℕ) (l : Storage) (nm : Option Name) (x : Scalars) {own 
   does_appended {e} {p} w g i b = does_moved ws ms l (append nm x) (Ok (moved_by e)) tt refl (append_writes x o s w.enters {p = p} g i b) (puts_entered (Ok e) w)
 
 -- one whose bytes are those stored for a value, or that has its own refusal
-size_number : {A : Type 0} (stored : A → List ℕ) (x : Result A Refusal) → number_told (size_by stored x) ≡ number_told x
-size_number stored (Ok x) = refl
-size_number stored (Err e) = refl
+module _ {A : Type 0} (stored : A → List ℕ) (x : Result A Refusal) {size : Result ℕ Refusal} (h : size ≡ size_by stored x) (ws ms : List ℕ) (l : Storage) (nm : Option Name) {us text ends : List ℕ} where
+  -- one that is entered is not refused
+  pub own_whole : {e : Entered} → EntersWords ws us ms l nm true false (number_told size) (size_told size) (Ok e) text ends → IsOk x
+  own_whole w = own_entered stored x h w.enters
 
-size_bytes : {A : Type 0} (stored : A → List ℕ) {s : Scalars} (x : Result A Refusal) → OwnBytes stored s x → number_told (size_by stored x) ≡ 0
-    → size_told (size_by stored x) ≡ length (scalar_bytes (scalar_of s))
-size_bytes stored (Ok x) t z = ap length (sym (t.bytes x refl))
-size_bytes stored (Err e) t z = absurd (number_some e z)
+  pub own_refused : {s : Scalars} {f : Refusal} → OwnBytes stored s x → EntersWords ws us ms l nm true false (number_told size) (size_told size) (Err f) text ends
+      → DoesWords (refusal_number f) ws us ms ms l (storage_of l.value text ends l.entries l.undo) (append nm s)
+  own_refused {s} t w = does_refused ws ms l nm s (own_number stored x h t) (own_size stored x h t) w
 
-module _ {A : Type 0} (stored : A → List ℕ) (x : Result A Refusal) {size : Result ℕ Refusal} (h : size ≡ size_by stored x) where
-  own_number : {s : Scalars} → OwnBytes stored s x → number_told size ≡ first (scalar_rows s)
-  own_number t = rw (h, size_number stored x) t.number
-
-  own_size : {s : Scalars} → OwnBytes stored s x → number_told size ≡ 0 → size_told size ≡ length (scalar_bytes (scalar_of s))
-  own_size t z = rw h (size_bytes stored x t (rw h at z))
-
-  module _ (ws ms : List ℕ) (l : Storage) (nm : Option Name) {us text ends : List ℕ} where
-    -- one that is entered is not refused
-    pub own_whole : {e : Entered} → EntersWords ws us ms l nm true false (number_told size) (size_told size) (Ok e) text ends → IsOk x
-    own_whole w = go x (sym (size_number stored x) ∙ (rw h at (own_zero (view_of (builder_of ws) ms) l nm true false (number_told size) (size_told size) (sym w.enters.number))))
-      where
-        go : (r : Result A Refusal) → number_told r ≡ 0 → IsOk r
-        go (Ok y) z = refl
-        go (Err f) z = absurd (number_some f z)
-
-    pub own_refused : {s : Scalars} {f : Refusal} → OwnBytes stored s x → EntersWords ws us ms l nm true false (number_told size) (size_told size) (Err f) text ends
-        → DoesWords (refusal_number f) ws us ms ms l (storage_of l.value text ends l.entries l.undo) (append nm s)
-    own_refused {s} t w = does_refused ws ms l nm s (own_number t) (own_size t) w
-
-    pub own_appended : {s : Scalars} {e : Entered} {y : A} {p : Placed} {value entries undo : List ℕ} → OwnBytes stored s x → EntersWords ws us ms l nm true false (number_told size) (size_told size) (Ok e) text ends
-        → entries ≡ entries_put e l.entries → undo ≡ undo_put e l.entries l.undo → x ≡ Ok y → Writes (counts_of ws).value (stored y) l.value p value
-        → DoesWords 0 ws us ms ms l (storage_of value text ends entries undo) (append nm s)
-    own_appended {s} {y = y} {p = p} t w g i q b = does_appended ws ms l nm s (own_number t) (own_size t) {p = p} w g i (rw (t.bytes y q) b)
+  pub own_appended : {s : Scalars} {e : Entered} {y : A} {p : Placed} {value entries undo : List ℕ} → OwnBytes stored s x → EntersWords ws us ms l nm true false (number_told size) (size_told size) (Ok e) text ends
+      → entries ≡ entries_put e l.entries → undo ≡ undo_put e l.entries l.undo → x ≡ Ok y → Writes (counts_of ws).value (stored y) l.value p value
+      → DoesWords 0 ws us ms ms l (storage_of value text ends entries undo) (append nm s)
+  own_appended {s} {y = y} {p = p} t w g i q b = does_appended ws ms l nm s (own_number stored x h t) (own_size stored x h t) {p = p} w g i (rw (t.bytes y q) b)
 
 -- a name registered
 module _ (ws ms : List ℕ) (l : Storage) (name : Name) {us text ends : List ℕ} where
-  pub register_refused : {f : Refusal} → EntersWords ws us ms l (some name) false false 0 0 (Err f) text ends → DoesWords (refusal_number f) ws us ms ms l (storage_of l.value text ends l.entries l.undo) (register name)
+  register_refused : {f : Refusal} → EntersWords ws us ms l (some name) false false 0 0 (Err f) text ends → DoesWords (refusal_number f) ws us ms ms l (storage_of l.value text ends l.entries l.undo) (register name)
   register_refused {f} w = does_moved ws ms l (register name) (Err f) tt refl (registers_refused name w.enters refl refl) (puts_entered (Err f) w)
 
-  pub does_registered : {e : Entered} → EntersWords ws us ms l (some name) false false 0 0 (Ok e) text ends → DoesWords 0 ws us ms ms l (storage_of l.value text ends l.entries l.undo) (register name)
+  does_registered : {e : Entered} → EntersWords ws us ms l (some name) false false 0 0 (Ok e) text ends → DoesWords 0 ws us ms ms l (storage_of l.value text ends l.entries l.undo) (register name)
   does_registered {e} w = does_moved ws ms l (register name) (Ok (moved_by e)) tt refl (registers name w.enters) (puts_entered (Ok e) w)
+
+  pub register_told : (r : Result Entered Refusal) → EntersWords ws us ms l (some name) false false 0 0 r text ends → DoesWords (number_told r) ws us ms ms l (storage_of l.value text ends l.entries l.undo) (register name)
+  register_told (Ok e) w = does_registered w
+  register_told (Err f) w = register_refused w
 
 -- ---- a container put
 
@@ -218,7 +201,7 @@ module _ (ws ms : List ℕ) (l : Storage) (nm : Option Name) (object : Bool) {us
   pub opens_deep : {e : Entered} → EntersWords ws us ms l nm true true 0 0 (Ok e) text ends → (counts_of ws).depth < 64
   opens_deep w = (enter_clears (view_of (builder_of ws) ms) l nm true true 0 0 (sym w.enters.number)).depth refl
 
-  pub opens_done : {e : Entered} {entries undo xs ys : List ℕ} {p : ParentEntry} {k : Container} → EntersWords ws us ms l nm true true 0 0 (Ok e) text ends
+  pub opens_done : {e : Entered} {entries undo xs ys : List ℕ} {p : Optional Entry} {k : Container} → EntersWords ws us ms l nm true true 0 0 (Ok e) text ends
       → (p ≡ parent_put e l.entries) × (entries ≡ entries_put e l.entries) × (undo ≡ undo_put e l.entries l.undo) → k ≡ child_of (counts_of ws) e p object
       → PutsContainer us xs (counts_of ws).depth k → PutsElements xs ys ((counts_of ws).depth + 1) 0 → DoesWords 0 ws ys ms ms l (storage_of l.value text ends entries undo) (open_in nm object)
   unfolding after told

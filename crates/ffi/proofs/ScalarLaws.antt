@@ -1,40 +1,21 @@
--- Bytes by the code of their kind, the sixteen bytes of a UUID, and the scalar that number 7 refuses.
-use Rattle.std.proofs.Common.{◌≡◌, ◌∙◌, ◌++◌, Bool, true, false, cond, List, ℕ, Option, None, Some, Result, Ok, Err, length, ltb, refl, replicate, sym, take, ap}
-use lib.Seq.{take-append_seam}
+-- Bytes by the code of their kind, and the scalar that number 7 refuses.
+use Rattle.std.proofs.Common.{◌≡◌, ◌∙◌, Bool, true, false, cond, List, ℕ, Option, None, Some, Result, Err, ltb, refl, sym}
 use Rattle.encoding.specs.Rows.{first}
-use Rattle.value.specs.declared.variant.Variant.{Variant}
 use Rattle.value.specs.declared.variant.VariantBytes.{VariantBytes}
 use Rattle.value.specs.Decimal.{out_of_range}
-use Rattle.value.specs.Scalar.{ill_formed, scalar_bytes, stored_bytes, stored_variant}
 use Rattle.semantics.specs.declared.refusal.Refusal.{Refusal}
 use Rattle.semantics.specs.declared.refusal.Refusal.TheVariants as refusal
-use Rattle.semantics.specs.Refusal.{number_told, refusal_number}
-use Rattle.semantics.proofs.RefusalLaws.{number_some}
-use Rattle.refusals.proofs.RowLaws.{own_row}
-use Rattle.semantics.specs.Record.{Scalars, bytes, fixed, scalar_of, sixteen}
-use Rattle.semantics.specs.Table.{scalar_rows}
-use Rattle.actions.specs.Actions.{StoredAs}
-use Rattle.ffi.specs.Scalars.{OwnBytes, bytes_by, kind_of, no_scalar}
+use Rattle.value.specs.Scalar.{scalar_bytes, stored_variant}
+use Rattle.value.specs.declared.variant.Variant.{Variant}
+use Rattle.std.specs.Prelude.{MatchOption}
+use Rattle.semantics.specs.Record.{bytes, fixed}
+use Rattle.actions.specs.Append.{OwnBytes}
+use Rattle.actions.proofs.AppendLaws.{own_refuses}
+use Rattle.ffi.specs.Scalars.{bytes_by, kind_of, no_scalar}
 
 -- what is no scalar is refused: by number 7, where no earlier row holds
 pub no_scalar_refused : out_of_range no_scalar ≡ true
 no_scalar_refused = refl
-
--- a refusal of its own, and a value whose bytes are stored
-pub own_refuses : {A : Type 0} (stored : A → List ℕ) (s : Scalars) (r : Refusal) → refusal_number r ≡ first (scalar_rows s) → OwnBytes stored s (Err r)
-own_refuses stored s r e = record { number = e; bytes = λ x q. absurd (number_some r (ap number_told q)) }
-
-value_told : {A : Type 0} → A → Result A Refusal → A
-value_told x (Ok y) = y
-value_told x (Err r) = x
-
-pub own_stores : {A : Type 0} (stored : A → List ℕ) (s : Scalars) (x : A) → 0 ≡ first (scalar_rows s) → scalar_bytes (scalar_of s) ≡ stored x → OwnBytes stored s (Ok x)
-unfolding value_told
-own_stores stored s x e b = record { number = e; bytes = λ y q. b ∙ ap stored (ap (value_told x) q) }
-
--- one that is stored as a scalar of fixed size
-pub own_of : {s : Scalars} {r : Result Variant Refusal} → StoredAs s r → OwnBytes (λ x. scalar_bytes (stored_variant x)) s r
-own_of t = record { number = t.number; bytes = λ x q. ap scalar_bytes (t.scalar x q) }
 
 -- bytes of a kind that there is, and of one that there is not
 module _ (code : ℕ) (bs : List ℕ) {o : Option VariantBytes} (e : o ≡ cond (ltb 3 code) None (Some (kind_of code))) where
@@ -59,12 +40,14 @@ module _ (code : ℕ) (bs : List ℕ) {o : Option VariantBytes} (e : o ≡ cond 
     unfolding first
     no_kind n = rw (unknown_kind n) (own_refuses stored (fixed no_scalar) refusal.OutOfRange refl)
 
-    pub ill_kind : {k : VariantBytes} → o ≡ Some k → ill_formed k bs ≡ true → OwnBytes stored (bytes_by code bs) (Err refusal.IllFormed)
-    ill_kind {k} s i = rw (known_kind s) (own_refuses stored (bytes k bs) refusal.IllFormed (own_row 8 refl (sym i)))
+    pub some_kind : {k : VariantBytes} {r : Result A Refusal} → o ≡ Some k → OwnBytes stored (bytes k bs) r → OwnBytes stored (bytes_by code bs) r
+    some_kind s w = rw (known_kind s) w
 
-    pub good_kind : {k : VariantBytes} {x : A} → o ≡ Some k → ill_formed k bs ≡ false → scalar_bytes (stored_bytes k bs) ≡ stored x → OwnBytes stored (bytes_by code bs) (Ok x)
-    good_kind {k} {x} s i b = rw (known_kind s) (own_stores stored (bytes k bs) x (own_row 8 refl (sym i)) b)
+-- a scalar of fixed size, and numbers that are none
+module _ {o : Option Variant} {v : Variant} where
+  pub no_fixed : o ≡ None → MatchOption o (v ≡ no_scalar) (λ x. x ≡ v) → OwnBytes (λ x. scalar_bytes (stored_variant x)) (fixed v) (Err refusal.OutOfRange)
+  unfolding first
+  no_fixed n m = rw (rw n at m) (own_refuses (λ x. scalar_bytes (stored_variant x)) (fixed no_scalar) refusal.OutOfRange refl)
 
--- its 16 bytes are not cut or filled
-pub sixteen_whole : (bs : List ℕ) → length bs ≡ 16 → sixteen bs ≡ bs
-sixteen_whole bs e = ap (λ n. take n (bs ++ replicate 16 0)) (sym e) ∙ take-append_seam bs (replicate 16 0)
+  pub some_fixed : {w : Variant} {r : Result Variant Refusal} → o ≡ Some w → MatchOption o (v ≡ no_scalar) (λ x. x ≡ v) → OwnBytes (λ x. scalar_bytes (stored_variant x)) (fixed w) r → OwnBytes (λ x. scalar_bytes (stored_variant x)) (fixed v) r
+  some_fixed s m t = rw (rw s at m) at t

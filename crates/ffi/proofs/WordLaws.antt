@@ -8,11 +8,11 @@ use lib.ListN.{length, length-set, get_or, set}
 use lib.Seq.{get_or-set_other, get_or-set_same}
 use borrow.Author.Tests.{lt-ltb, le-ltb}
 use mir.Val.{bool_byte}
+use Rattle.std.specs.Prelude.{Option as Optional, Some, None}
+use Rattle.container.specs.declared.Entry.{Entry}
 use Rattle.semantics.specs.declared.Builder.{Builder}
 use Rattle.semantics.specs.declared.Container.{Container}
 use Rattle.semantics.specs.declared.Counts.{Counts}
-use Rattle.semantics.specs.declared.ParentEntry.{ParentEntry}
-use Rattle.semantics.specs.declared.ParentEntry.TheVariants.{New, Replaced}
 use Rattle.semantics.specs.Record.{no_container, container_at, elements_at}
 use Rattle.actions.proofs.ElementLaws.{set_beyond}
 use Rattle.ffi.specs.Words.{word_at, flag, counts_of, parent_entry_of, container_from, container_word, container_of, row_from, containers_of, elements_word, elements_of, builder_of, word_of, tag_of, id_of, offset_of, put_from, counts_words, counts_put, container_words, container_put, PutsCounts, PutsContainer, PutsElements, PutsInner}
@@ -136,10 +136,10 @@ put_counts ws c h =
 
 -- ---- a container written
 
-parent_read : (e : ParentEntry) → parent_entry_of (tag_of e) (id_of e) (offset_of e) ≡ e
+parent_read : (e : Optional Entry) → parent_entry_of (tag_of e) (id_of e) (offset_of e) ≡ e
 unfolding parent_entry_of
-parent_read New = refl
-parent_read (Replaced id offset) = refl
+parent_read None = refl
+parent_read (Some former) = refl
 
 container_read : (ws : List ℕ) (p : ℕ) (k : Container) → p + 11 ≤ length ws → container_from (container_put ws p k) p ≡ k
 unfolding container_from

@@ -1,17 +1,12 @@
 -- A scalar as numbers: of fixed size the code of its type, a signed number z, an unsigned number low and a scale; bytes with the code of
 -- their kind. Any numbers are a scalar: those of no type or kind, or outside its type, are one that number 7 refuses.
-use Rattle.std.specs.Prelude.{◌≡◌, cond, List, ℕ, eqb, ltb, ℤ, pos, length, Result, Ok, Err}
+use Rattle.std.specs.Prelude.{cond, List, ℕ, eqb, ltb, ℤ, pos}
 use Rattle.std.specs.Int.Signed.{mag}
 use Rattle.value.specs.declared.variant.VariantBytes.{VariantBytes}
 use Rattle.value.specs.declared.variant.VariantBytes.TheVariants as kinds
 use Rattle.value.specs.declared.variant.Variant.{Variant}
 use Rattle.value.specs.declared.variant.Variant.TheVariants.{Null, Int8, Int16, Int32, Int64, Date, TimestampMicros, TimestampNtzMicros, TimestampNanos, TimestampNtzNanos, Decimal4, Decimal8, Decimal16, Float, Double, BooleanTrue, BooleanFalse, Time}
-use Rattle.semantics.specs.declared.refusal.Refusal.{Refusal}
-use Rattle.semantics.specs.Refusal.{number_told}
-use Rattle.semantics.specs.Record.{Scalars, fixed, bytes, scalar_of}
-use Rattle.semantics.specs.Table.{scalar_rows}
-use Rattle.encoding.specs.Rows.{first}
-use Rattle.value.specs.Scalar.{scalar_bytes}
+use Rattle.semantics.specs.Record.{Scalars, fixed, bytes}
 
 -- a time past the end of the day, which number 7 refuses
 abbrev pub no_scalar : Variant
@@ -50,12 +45,3 @@ kind_of k = cond (eqb k 0) kinds.Binary (cond (eqb k 1) kinds.String (cond (eqb 
 
 unfoldable pub bytes_by : ℕ → List ℕ → Scalars
 bytes_by k bs = cond (ltb 3 k) (fixed no_scalar) (bytes (kind_of k) bs)
-
--- For the code: a scalar whose bytes are those stored for a value, or its own refusal
-pub record OwnBytes {A : Type 0} (stored : A → List ℕ) (s : Scalars) (r : Result A Refusal) : Type 0 where
-  pub number : number_told r ≡ first (scalar_rows s)
-  pub bytes : (x : A) → r ≡ Ok x → scalar_bytes (scalar_of s) ≡ stored x
-
-abbrev pub size_by : {A : Type 0} → (A → List ℕ) → Result A Refusal → Result ℕ Refusal
-size_by stored (Ok x) = Ok (length (stored x))
-size_by stored (Err r) = Err r

@@ -1,12 +1,11 @@
 -- The state words: 777 numbers, and the builder that they mean. Any words mean one: a flag is "not 0".
-use Rattle.std.specs.Prelude.{◌≡◌, Bool, cond, not, List, [], ◌∷◌, ℕ, zero, suc, ◌+◌, ◌-◌, ◌*◌, eqb, ltb, get_or, set, IfOk, IfErr, Result}
+use Rattle.std.specs.Prelude.{◌≡◌, Bool, cond, not, List, [], ◌∷◌, ℕ, zero, suc, ◌+◌, ◌-◌, ◌*◌, eqb, ltb, get_or, set, IfOk, IfErr, Result, Option as Optional, Some, None}
 use Rattle.encoding.specs.Rows.{first}
 use Rattle.metadata.specs.Calls.{from_parts}
+use Rattle.container.specs.declared.Entry.{Entry}
 use Rattle.semantics.specs.declared.Builder.{Builder}
 use Rattle.semantics.specs.declared.Container.{Container}
 use Rattle.semantics.specs.declared.Counts.{Counts}
-use Rattle.semantics.specs.declared.ParentEntry.{ParentEntry}
-use Rattle.semantics.specs.declared.ParentEntry.TheVariants.{New, Replaced}
 use Rattle.semantics.specs.Record.{Storage, State, Call, register, append, open_in, close, roll_back, uniqueness, set_mark, return_to, finish, container_at, in_list, view_of}
 use Rattle.semantics.specs.Table.{make_rows}
 use Rattle.semantics.specs.Step.{mark_to, step}
@@ -42,8 +41,8 @@ counts_of ws =
     }
 
 -- a parent's entry: a tag (0 is "new"), an id and an offset, which count where the tag is not 0
-unfoldable pub parent_entry_of : ℕ → ℕ → ℕ → ParentEntry
-parent_entry_of tag id offset = cond (eqb tag 0) New (Replaced id offset)
+unfoldable pub parent_entry_of : ℕ → ℕ → ℕ → Optional Entry
+parent_entry_of tag id offset = cond (eqb tag 0) None (Some (record { id = id; offset = offset }))
 
 -- the container whose eleven words start at place p
 unfoldable pub container_from : List ℕ → ℕ → Container
@@ -97,17 +96,17 @@ abbrev pub word_of : Bool → ℕ
 word_of b = cond b 1 0
 
 -- the three words of a parent's entry
-abbrev pub tag_of : ParentEntry → ℕ
-tag_of New = 0
-tag_of (Replaced id offset) = 1
+abbrev pub tag_of : Optional Entry → ℕ
+tag_of None = 0
+tag_of (Some former) = 1
 
-abbrev pub id_of : ParentEntry → ℕ
-id_of New = 0
-id_of (Replaced id offset) = id
+abbrev pub id_of : Optional Entry → ℕ
+id_of None = 0
+id_of (Some former) = former.id
 
-abbrev pub offset_of : ParentEntry → ℕ
-offset_of New = 0
-offset_of (Replaced id offset) = offset
+abbrev pub offset_of : Optional Entry → ℕ
+offset_of None = 0
+offset_of (Some former) = former.offset
 
 -- numbers put one behind the other, the first of them n places behind p
 unfoldable pub put_from : List ℕ → ℕ → ℕ → List ℕ → List ℕ

@@ -18,27 +18,33 @@
 // The word calls. That the slices are valid and do not overlap is the caller's, and outside the proof.
 // The names are derived from the methods of `VariantBuilder`, `ListBuilder` and `ObjectBuilder` of parquet-variant 60.1.0 (see NOTICE).
 // Changed: written in Rattle, over state words.
+// Kept (5b; C interface): an exported call is lent the five slices apart, some by `const` pointers, and a name's flag beside the name; `append`,
+// `new_container` and `enter` hand these on as they are lent.
+// Kept (2; C interface): exported calls that are alike in form have names of their own.
+// Kept (1b; C interface): a call answers a number: one that also puts words hands a refusal on by `match`; an inner function would be lent all again.
 ghost use Rattle.std.specs.Prelude.{◌≡◌, false, true};
 ghost use Rattle.semantics.specs.Record.{Scalars, append as append_of, close as close_of, fixed, open_in, packed, register as register_of, return_to, roll_back, set_mark, storage_of, uniqueness, uuid as uuid_of};
 ghost use Rattle.semantics.specs.Refusal.{number_told};
-ghost use Rattle.refusals.specs.Decide.{name_in, name_of, size_told};
+ghost use Rattle.refusals.specs.Decide.{into_of, name_in, name_of, opens_of, size_told};
 ghost use Rattle.ffi.specs.Dates.{civil_by, date_of};
-ghost use Rattle.ffi.specs.Scalars.{OwnBytes, bytes_by, variant_of};
+ghost use Rattle.actions.specs.Append.{OwnBytes};
+ghost use Rattle.ffi.specs.Scalars.{bytes_by, variant_of};
 ghost use Rattle.ffi.specs.Words.{DoesWords, EntersWords, FinishesWords, MakesWords};
 
 use crate::WORDS;
 use crate::dates::civil_by;
-use crate::scalars::variant_of;
-use crate::stored::{Stored, bytes_by, size_of};
+use crate::scalars::{bytes_by, value_by};
 use crate::words::{Words, moved, put_container, put_counts, put_elements, view_of};
 use actions::{
-    Entered, child, close_over, enter_over, finish_over, mark_over, note, packed_own, return_over,
-    rollback_over, unique_over, value_own,
+    Entered, Packed, Scalar, child, close_over, enter_over, finish_over, mark_over, note,
+    return_over, rollback_over, size_of, unique_over,
 };
+use calendar::date::Date;
 use marks::{NUMBERS, mark_at, put_mark};
 use records::Record;
-use refusals::{Seen, may_make, name_if};
+use refusals::{Entering, Seen, may_make, name_if};
 use semantics::{Refusal, fresh_counts};
+use value::stored::Stored;
 
 // A fresh builder; children inherit the uniqueness mark, and offsets, ids and dictionary numbers take no fewer bytes than the floor, 1 to 4.
 // It sets the counts alone. Any other floor is 24, and nothing is made.
@@ -70,7 +76,7 @@ pub extern "C" fn variant_add_field_name(
         (storage_of value.now text.old ends.old entries.now undo.now)
         (storage_of value.now text.new ends.new entries.now undo.now) (register_of name.now) }
 {
-    match enter(
+    let r = enter(
         words,
         marks,
         value,
@@ -79,13 +85,10 @@ pub extern "C" fn variant_add_field_name(
         entries,
         undo,
         Some(name),
-        false,
-        false,
+        Entering::Register,
         Ok(0),
-    ) {
-        Ok(_) => 0,
-        Err(r) => r.number(),
-    }
+    );
+    number_of(r.map(|_| ()))
 }
 
 // The innermost container closed.
@@ -153,7 +156,7 @@ pub extern "C" fn variant_append_value(
         (storage_of value.new text.new ends.new entries.new undo.new)
         (append_of (name_of named name.now) (fixed (variant_of code z low scale))) }
 {
-    let x = value_own(variant_of(code, z, low, scale));
+    let x = value_by(code, z, low, scale);
     let given = name_if(named, name);
     number_of(append(words, marks, value, text, ends, entries, undo, given, x))
 }
@@ -182,7 +185,7 @@ pub extern "C" fn variant_append_civil(
         (storage_of value.new text.new ends.new entries.new undo.new)
         (append_of (name_of named name.now) (civil_by code (date_of year month day) time)) }
 {
-    let x = civil_by(code, year, month, day, time);
+    let x = civil_by(code, Date { year, month, day }, time);
     let given = name_if(named, name);
     number_of(append(words, marks, value, text, ends, entries, undo, given, x))
 }
@@ -207,7 +210,7 @@ pub extern "C" fn variant_append_packed(
         (storage_of value.new text.new ends.new entries.new undo.new)
         (append_of (name_of named name.now) (packed scale bytes.now)) }
 {
-    let x = packed_own(bytes, scale);
+    let x = Packed { scale, bytes }.own();
     let given = name_if(named, name);
     number_of(append(words, marks, value, text, ends, entries, undo, given, x))
 }
@@ -234,14 +237,25 @@ fn append<S: Stored + Copy>(
     let c = Words(words).counts();
     let size = size_of(x);
     let e = enter(
-        words, marks, value, text, ends, entries, undo, name, true, false, size,
+        words,
+        marks,
+        value,
+        text,
+        ends,
+        entries,
+        undo,
+        name,
+        Entering::Append,
+        size,
     )?;
     note(e, entries, undo);
-    let _ = x.unwrap().write(value, c.value);
+    let x = x?;
+    // Its room is decided with the rows: nothing is refused here.
+    let _ = x.write(value, c.value);
     Ok(())
 }
 
-// The number that a call answers: 0 where it is carried out, or its refusal's.
+// Kept (1d; C interface): the number that a call answers: 0 where it is carried out, or its refusal's.
 fn number_of(r: Result<(), Refusal>) -> u8
     ensures { result ≡ number_told r }
 {
@@ -294,18 +308,9 @@ pub extern "C" fn variant_append_uuid(
         (storage_of value.new text.new ends.new entries.new undo.new)
         (append_of (name_of named name.now) (uuid_of uuid.now)) }
 {
+    let x = uuid.own();
     let given = name_if(named, name);
-    number_of(append(
-        words,
-        marks,
-        value,
-        text,
-        ends,
-        entries,
-        undo,
-        given,
-        Ok(*uuid),
-    ))
+    number_of(append(words, marks, value, text, ends, entries, undo, given, x))
 }
 
 #[unsafe(no_mangle)]
@@ -350,6 +355,7 @@ pub extern "C" fn variant_new_object(
     number_of(new_container(words, marks, value, text, ends, entries, undo, given, true))
 }
 
+// Kept (1c; no plainer): a container's record holds its kind as this flag, and so does the definition of an open.
 fn new_container(
     words: &mut [usize; WORDS],
     marks: &[usize; NUMBERS],
@@ -376,8 +382,7 @@ fn new_container(
         entries,
         undo,
         name,
-        true,
-        true,
+        Entering::Open,
         Ok(0),
     )?;
     let p = note(e, entries, undo);
@@ -535,16 +540,15 @@ fn enter(
     entries: &[usize],
     undo: &[usize],
     name: Option<&[u8]>,
-    into: bool,
-    opens: bool,
+    call: Entering,
     size: Result<usize, Refusal>,
 ) -> Result<Entered, Refusal>
     ensures { EntersWords words.old words.new marks.now
         (storage_of value.now text.old ends.old entries.now undo.now) (name_in name.entry)
-        into opens (number_told size) (size_told size) result text.new ends.new }
+        (into_of call) (opens_of call) (number_told size) (size_told size) result text.new ends.new }
 {
     let v = view_of(words, marks);
-    let e = enter_over(v, value, text, ends, entries, undo, name, into, opens, size)?;
+    let e = enter_over(v, value, text, ends, entries, undo, name, call, size)?;
     put_counts(words, e.counts);
     put_elements(words, v.counts.depth, e.elements);
     Ok(e)

@@ -1,9 +1,10 @@
 // Dates as numbers: a date to its day number, a day number to its date, and the scalar that is stored for one.
-ghost use Rattle.std.specs.Prelude.{◌≡◌};
-ghost use Rattle.actions.specs.Actions.{StoredAs};
+ghost use Rattle.std.specs.Prelude.{◌≡◌, ◌≤◌, MatchOption};
+ghost use Rattle.value.specs.Scalar.{scalar_bytes, stored_variant};
+ghost use Rattle.actions.specs.Append.{OwnBytes};
 ghost use Rattle.ffi.specs.Dates.{TellsDate, TellsDays, civil_by, civil_of, date_of};
 
-use actions::civil_own;
+use actions::Scalar;
 use calendar::civil::Civil;
 use calendar::date::{Date, OutOfCalendar, date_of, days_of};
 use semantics::Refusal;
@@ -38,27 +39,20 @@ pub extern "C" fn variant_date_of(days: i64, year: &mut i64, month: &mut i64, da
     0
 }
 
-pub(crate) fn civil_by(
-    code: u8,
-    year: i64,
-    month: i64,
-    day: i64,
-    time: i64,
-) -> Result<Variant, Refusal>
-    ensures { StoredAs (civil_by code (date_of year month day) time) result }
+// A date, or a date and a time of day, by the code of its type, or its own refusal; those of any other code are out of range.
+pub(crate) fn civil_by(code: u8, date: Date, time: i64) -> Result<Variant, Refusal>
+    ensures { OwnBytes (λ x. scalar_bytes (stored_variant x)) (civil_by code date time) result }
 {
-    match code {
-        11..=13 => civil_own(civil_of(code, Date { year, month, day }, time)),
-        _ => Err(Refusal::OutOfRange),
-    }
+    civil_of(code, date, time).ok_or(Refusal::OutOfRange)?.own()
 }
 
-fn civil_of(code: u8, date: Date, time: i64) -> Civil
-    ensures { result ≡ civil_of code date time }
+fn civil_of(code: u8, date: Date, time: i64) -> Option<Civil>
+    ensures { MatchOption result (¬ ((11 ≤ code) × (code ≤ 13))) (λ x. (11 ≤ code) × (code ≤ 13) × (x ≡ civil_of code date time)) }
 {
     match code {
-        11 => Civil::Date(date),
-        12 => Civil::TimestampMicros(date, time),
-        _ => Civil::TimestampNtzMicros(date, time),
+        11 => Some(Civil::Date(date)),
+        12 => Some(Civil::TimestampMicros(date, time)),
+        13 => Some(Civil::TimestampNtzMicros(date, time)),
+        _ => None,
     }
 }

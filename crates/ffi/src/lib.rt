@@ -17,7 +17,6 @@ mod calls;
 mod dates;
 mod packed;
 mod scalars;
-mod stored;
 mod words;
 
 // How many state words there are: 9 counts, 64 containers of 11 words, and the elements of each.

@@ -4,6 +4,7 @@ ghost use Rattle.ffi.specs.Packed.{WritesPackedWords};
 
 use packed_decimal::write::{WriteError, write_packed_decimal};
 
+// Kept (5b; C interface): the number comes as two halves from the call, and the callee makes it one.
 // The shortest packed form of high * 2^64 + low at the start of `out`, its length in `written`; 7 where the magnitude or the scale is too
 // large, then 14 where `out` is too short. A refused call leaves both.
 #[unsafe(no_mangle)]

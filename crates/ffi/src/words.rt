@@ -1,14 +1,16 @@
 // The state words read and written, piece by piece.
 ghost use Rattle.std.specs.Prelude.{◌≡◌, ◌<◌, ◌≤◌, ◌+◌, ℕ};
 ghost use Rattle.semantics.specs.Record.{view_of};
-ghost use Rattle.ffi.specs.Words.{builder_of, container_from, container_word, counts_of, Puts, PutsContainer, PutsCounts, PutsElements, id_of, offset_of, parent_entry_of, tag_of};
+ghost use Rattle.ffi.specs.Words.{builder_of, container_from, container_word, counts_of, Puts, PutsContainer, PutsCounts, PutsElements};
+ghost use Rattle.ffi.specs.Words.{id_of, offset_of, parent_entry_of, tag_of};
 
 use crate::WORDS;
 use actions::Moved;
+use container::Entry;
 use marks::NUMBERS;
 use metadata::MetadataBuilder;
 use records::Record;
-use semantics::{Container, Counts, ParentEntry, Refusal, View, no_container};
+use semantics::{Container, Counts, Refusal, View, no_container};
 
 // The words, read as a builder's record.
 #[derive(Clone, Copy)]
@@ -56,6 +58,7 @@ pub(crate) fn view_of(words: &[usize; WORDS], marks: &[usize; NUMBERS]) -> View
 }
 
 // The container whose eleven words start at place p.
+// Kept (6; C interface): the words are lent as one array, and `Record` reads them by the container's depth.
 #[tactic(auto, unfolding(crate::specs::Words::container_from))]
 #[inline(always)]
 fn container_from(words: &[usize; WORDS], p: usize) -> Container
@@ -77,22 +80,22 @@ fn container_from(words: &[usize; WORDS], p: usize) -> Container
 
 #[tactic(auto, unfolding(crate::specs::Words::parent_entry_of))]
 #[inline(always)]
-fn parent_entry(tag: usize, id: usize, offset: usize) -> ParentEntry
+fn parent_entry(tag: usize, id: usize, offset: usize) -> Option<Entry>
     ensures { result ≡ parent_entry_of tag id offset }
 {
     match tag {
-        0 => ParentEntry::New,
-        _ => ParentEntry::Replaced { id, offset },
+        0 => None,
+        _ => Some(Entry { id, offset }),
     }
 }
 
 // The tag, the id and the offset of a parent's entry.
-fn parent_words(e: ParentEntry) -> (usize, usize, usize)
+fn parent_words(e: Option<Entry>) -> (usize, usize, usize)
     ensures { result ≡ (tag_of e, id_of e, offset_of e) }
 {
     match e {
-        ParentEntry::New => (0, 0, 0),
-        ParentEntry::Replaced { id, offset } => (1, id, offset),
+        None => (0, 0, 0),
+        Some(former) => (1, former.id, former.offset),
     }
 }
 
@@ -138,6 +141,7 @@ pub(crate) fn put_container(words: &mut [usize; WORDS], d: usize, k: Container)
 }
 
 // The elements of the innermost of d containers.
+// Kept (6; C interface): the words are lent as one array; d is the count of open containers, none among them.
 pub(crate) fn put_elements(words: &mut [usize; WORDS], d: usize, n: usize)
     ensures { PutsElements words.old words.new d n }
 {

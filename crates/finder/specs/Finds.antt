@@ -26,7 +26,8 @@ find_rows d v said out = pair_rows d v ++ (row 25 (unsaid said) ∷ row 14 (not 
 
 -- the table's numbers in its order, 25 among them, which `order` does not hold
 abbrev pub order_with_missing : List ℕ
-order_with_missing = 26 ∷ 1 ∷ 21 ∷ 2 ∷ 3 ∷ 4 ∷ 5 ∷ 6 ∷ 22 ∷ 18 ∷ 7 ∷ 17 ∷ 8 ∷ 9 ∷ 10 ∷ 11 ∷ 12 ∷ 13 ∷ 23 ∷ 19 ∷ 20 ∷ 25 ∷ 14 ∷ 15 ∷ 16 ∷ 24 ∷ []
+order_with_missing = 26 ∷ 1 ∷ 21 ∷ 2 ∷ 3 ∷ 4 ∷ 5 ∷ 6 ∷ 22 ∷ 18 ∷ 7 ∷ 17 ∷ 8 ∷ 9
+    ∷ 10 ∷ 11 ∷ 12 ∷ 13 ∷ 23 ∷ 19 ∷ 20 ∷ 25 ∷ 14 ∷ 15 ∷ 16 ∷ 24 ∷ []
 
 -- an answer's number in the table, and how many bytes it says are written
 abbrev pub found_number : Result ℕ FindError → ℕ

@@ -7,7 +7,8 @@ use native.Mathlib.Omega.{arith}
 use lib.Dec.{eqb, leb, ltb}
 use lib.ListN.{length, take, drop, get_or, get_or-eq_default}
 use borrow.Author.Tests.{eq-eqb, ne_eqb, eqb-true, leb-true}
-use Rattle.std.specs.Prelude.{Some, None}
+use Rattle.std.specs.Prelude.{Option, Some, None}
+use Rattle.std.specs.Bool.{then_some}
 use Rattle.lexicon.proofs.DictionaryLaws.{both}
 use Rattle.metadata.specs.Names.{Name, same}
 use Rattle.measure.specs.Measure.{container_length, value_length, measured, within}
@@ -20,6 +21,10 @@ use Rattle.grammar.specs.Tests.{list_offsets, list_from, stored_ids, object_from
 
 pub first_none : (v : List ℕ) → length v ≡ 0 → (0 ≡ get_or v 0 0) × (0 < 256)
 first_none v e = (sym (get_or-eq_default v 0 {n = 0} (omega arith)), omega arith)
+
+some_if : (t : Bool) (n : ℕ) → then_some t n ≡ cond t (Some n) None
+some_if true n = refl
+some_if false n = refl
 
 -- ---- a header lies within bytes that are as long as it says
 
@@ -68,11 +73,8 @@ module _ (v : List ℕ) {t : Bool} (e : t ≡ is_whole 3 32 v) where
       decided : is_list_head v ≡ u
       decided = list_split v ∙ (rw (← e, q, ← a, ← b) (sym (rw (rest_is v from) at f)))
 
-      pub list_good : u ≡ true → Some from ≡ list_head v
-      list_good r = rw (decided ∙ r) (ap Some b)
-
-      pub list_bad : u ≡ false → None ≡ list_head v
-      list_bad r = rw (decided ∙ r)
+      pub list_told : {r : Option ℕ} → r ≡ then_some u from → r ≡ list_head v
+      list_told y = y ∙ (some_if u from ∙ rw (decided, b))
 
 -- ---- an object's
 
@@ -113,11 +115,8 @@ module _ (names : List Name) (v : List ℕ) {t : Bool} (e : t ≡ is_whole 2 128
             and_true true = refl
             and_true false = refl
 
-        pub object_good : u ≡ true → Some from ≡ object_head names v
-        object_good y = rw (settled ∙ y) (ap Some d)
-
-        pub object_bad : u ≡ false → None ≡ object_head names v
-        object_bad y = rw (settled ∙ y)
+        pub object_told : {s : Option ℕ} → s ≡ then_some u from → s ≡ object_head names v
+        object_told y = y ∙ (some_if u from ∙ rw (settled, d))
 
 -- ---- a header's size is at most that of its bytes
 

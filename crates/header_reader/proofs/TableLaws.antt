@@ -5,14 +5,15 @@ use mathlib.Core.List.{List, [], ◌∷◌, map}
 use Prim.Native.Nat.{ℕ, suc, ◌+◌, ◌-◌, ◌*◌, ◌≤◌, ◌<◌, min}
 use native.Mathlib.Nat.{mul-le-mul_right}
 use native.Mathlib.Omega.{arith}
-use lib.Dec.{eqb}
+use lib.Dec.{eqb, ltb}
 use lib.ListN.{length, take, drop, get_or, get_or-eq_default}
 use lib.Seq.{drop-drop}
-use borrow.Author.Tests.{eq-eqb, ne_eqb, eqb-true, eqb-false, lt-ltb, le-ltb}
+use borrow.Author.Tests.{eq-eqb, ne_eqb, eqb-true, eqb-false}
 use Rattle.metadata.specs.Names.{Name, same, below, ascending}
 use Rattle.metadata.specs.Bytes.{numbers}
 use Rattle.container.specs.Sort.{name_at}
 use Rattle.std.specs.Prelude.{Option, Some, None}
+use Rattle.std.specs.List.{list_all}
 use Rattle.std.specs.Option.{is_some}
 use Rattle.measure.specs.Measure.{measured, number_at, Numbered, some_length}
 use Rattle.lexicon.proofs.ByteLaws.{length_numbers}
@@ -45,21 +46,10 @@ numbers_next w n at bytes h z e =
 
 -- ---- each below a bound
 
-pub record Each (r : Bool) (b : ℕ) (ns : List ℕ) : Type 0 where
-  pub same : each_below b ns ≡ r
-
-module _ {r : Bool} {b e : ℕ} {all ns : List ℕ} (i : Each r b all) (f : all ≡ e ∷ ns) where
-  pub each_over : b ≤ e → false ≡ r
-  unfolding each_below
-  each_over k = rw (f, le-ltb e b k) at i.same
-
-  pub each_again : e < b → Each r b ns
-  unfolding each_below
-  each_again k = record { same = rw (f, lt-ltb e b k) at i.same }
-
-pub each_end : {r : Bool} {b : ℕ} {all : List ℕ} → Each r b all → all ≡ [] → true ≡ r
+pub all_below : (b : ℕ) (ns : List ℕ) → list_all (λ n. ltb n b) ns ≡ each_below b ns
 unfolding each_below
-each_end i f = rw f at i.same
+all_below b [] = refl
+all_below b (n ∷ ns) = ap (λ t. ltb n b && t) (all_below b ns)
 
 -- ---- the starts of values, one by one
 

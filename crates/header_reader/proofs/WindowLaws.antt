@@ -9,6 +9,7 @@ use lib.ListN.{length, take, drop, get_or, set, length-set}
 use lib.Seq.{drop-cons, drop-length, get_or-set_same, get_or-set_other}
 use borrow.Author.Tests.{ne_eqb, eqb-true, eqb-false, leb-true, le-leb, lt-leb, ltb-true, ltb-false, lt-ltb, le-ltb}
 use Rattle.std.specs.Prelude.{Option, Some, None}
+use Rattle.std.specs.Bool.{then_some}
 use Rattle.measure.specs.Measure.{measured, some_length}
 use Rattle.measure.proofs.MeasureLaws.{measured_none}
 use Rattle.lexicon.specs.Dictionary.{each_below}
@@ -289,8 +290,9 @@ module _ (vs ns cells cleared marks : List ℕ) {lo next : ℕ} {t : Bool} (z : 
   decides : t ≡ starting_by (is_start vs) lo (lo + length cells) ns
   decides = (rw (s ∙ z) at e) ∙ starting_same (marked lo marks) (is_start vs) lo (lo + length cells) ns (rw z at m.1)
 
-  pub window_good : t ≡ true → Window vs ns lo (lo + length cells) (Some next)
-  window_good q = (sym decides ∙ q, rw z at m.0)
-
-  pub window_bad : t ≡ false → Window vs ns lo (lo + length cells) None
-  window_bad q = sym decides ∙ q
+  pub window_told : {r : Option ℕ} → r ≡ then_some t next → Window vs ns lo (lo + length cells) r
+  window_told {r} y = go t refl y
+    where
+      go : (u : Bool) → t ≡ u → r ≡ then_some u next → Window vs ns lo (lo + length cells) r
+      go true q a = rw a (sym decides ∙ q, rw z at m.0)
+      go false q a = rw a (sym decides ∙ q)

@@ -1,5 +1,6 @@
 -- For the code: offsets beside the starts of values, window by window.
-use Rattle.std.specs.Prelude.{◌≡◌, Bool, true, false, not, ◌&&◌, ◌||◌, List, [], ◌∷◌, ℕ, ◌+◌, ◌-◌, ◌≤◌, ◌<◌, eqb, leb, ltb, Option, Some, None, drop, get_or, length}
+use Rattle.std.specs.Prelude.{◌≡◌, Bool, true, false, not, ◌&&◌, ◌||◌, List, [], ◌∷◌, ℕ, ◌+◌, ◌-◌, ◌≤◌, ◌<◌}
+use Rattle.std.specs.Prelude.{eqb, leb, ltb, Option, Some, None, drop, get_or, length}
 use Rattle.grammar.specs.Grammar.{starts_from, among}
 use Rattle.grammar.specs.Tests.{cut_by, starts_of}
 

@@ -2,12 +2,15 @@
 #![tactic(auto)]
 
 mod header;
+mod kinds;
 mod lists;
 mod numbers;
 mod objects;
 mod values;
 mod windows;
 
-pub use lists::{list_count, list_from, list_head, list_offset};
-pub use objects::{count_of_fields, object_from, object_head, stored_id, stored_offset};
+pub use header::Header;
+pub use kinds::{Kind, kind_of};
+pub use lists::list_head;
+pub use objects::object_head;
 pub use values::value_from;

@@ -1,9 +1,10 @@
 // A list's header.
-ghost use Rattle.std.specs.Prelude.{◌≡◌, ◌<◌, get_or};
+ghost use Rattle.std.specs.Prelude.{◌≡◌};
 ghost use Rattle.metadata.specs.Names.{same};
-ghost use Rattle.grammar.specs.Tests.{list_count, list_from, list_head, list_offsets, starts_of};
+ghost use Rattle.grammar.specs.Tests.{list_head, starts_of};
 
 use crate::header::{Header, is_whole};
+use crate::kinds::Kind;
 use crate::numbers::Numbers;
 use measure::value_length;
 
@@ -12,40 +13,16 @@ use measure::value_length;
 pub fn list_head(v: &[u8]) -> Option<usize>
     ensures { result ≡ list_head v.now }
 {
-    if !is_whole(v, 3, 32) {
+    if !is_whole(v, Kind::List) {
         return None;
     }
     let header = Header::of_list(v);
     let from = header.from();
-    if are_starts(header.offsets(), &v[from..]) {
-        Some(from)
-    } else {
-        None
-    }
-}
-
-// How many elements the header counts.
-pub fn list_count(v: &[u8]) -> usize
-    ensures { (result ≡ list_count v.now) × (result < 4294967296) }
-{
-    Header::of_list(v).count
-}
-
-// The offset of element k, counted from where the data begins; 0 where there is none.
-pub fn list_offset(v: &[u8], k: usize) -> usize
-    ensures { (result ≡ get_or (list_offsets v.now) k 0) × (result < 4294967296) }
-{
-    Header::of_list(v).offsets().get(k)
-}
-
-// Where the data begins.
-pub fn list_from(v: &[u8]) -> usize
-    ensures { result ≡ list_from v.now }
-{
-    Header::of_list(v).from()
+    are_starts(header.offsets(), &v[from..]).then_some(from)
 }
 
 // Are the offsets where the values start, each of them, that these bytes begin with?
+// Kept (3; no plainer): `at` is no index beside the `for`: it is the start that is compared, and grows by the value's length.
 fn are_starts(offsets: Numbers, values: &[u8]) -> bool
     ensures { result ≡ same offsets.entry (starts_of values.now) }
 {

@@ -26,6 +26,7 @@ impl<'a> Model for Numbers<'a> {
 }
 
 impl<'a> Numbers<'a> {
+    // Kept (6; no plainer): a header's place may lie behind its bytes, which a slice may not.
     pub(crate) fn new(bytes: &'a [u8], at: usize, width: usize, count: usize) -> Numbers<'a>
         requires { (width ≤ 4) × (at + width * count ≤ 5 + 8 * 4294967296) × (count < 4294967296) }
         ensures { result ≡ numbers width count (drop at bytes.now) }
@@ -45,7 +46,8 @@ impl<'a> Numbers<'a> {
         self.left
     }
 
-    // Number k of them, 0 where there is none, as the definition has it: callers ask below `len`.
+    // Number k of them.
+    // Kept (1d; no plainer): callers ask below `len`; behind them the definition that they are proved against says 0.
     pub(crate) fn get(&self, k: usize) -> usize
         ensures { (result ≡ get_or self.now k 0) × (result < 4294967296) }
     {
@@ -56,16 +58,11 @@ impl<'a> Numbers<'a> {
         }
     }
 
-    // Is each below b? A loop: with `all`, whose promise is over the calls that it makes, what it answers was not proved.
-    pub(crate) fn each_below(self, b: usize) -> bool
+    // Is each below b?
+    pub(crate) fn each_below(mut self, b: usize) -> bool
         ensures { result ≡ each_below b self.entry }
     {
-        for number in self {
-            if b <= number {
-                return false;
-            }
-        }
-        true
+        self.all(|number| number < b)
     }
 }
 

@@ -19,7 +19,8 @@ use Rattle.metadata.specs.Calls.{finishes}
 use Rattle.metadata.proofs.BytesLaws.{first_width, laid_out_read, ends_below, dictionary_size, length_names, length_joined_names, size_least}
 use Rattle.metadata.proofs.DictionaryLaws.{same_equal, equal_same}
 use Rattle.std.specs.Prelude.{Ok, Err}
-use Rattle.lexicon.specs.Dictionary.{each_utf8, stored_numbers, each_below, holds, most_bytes, ReadsNames, width_in, mark_in, is_dictionary, dictionary_rows, dictionary_number, read_dictionary, name_in}
+use Rattle.lexicon.specs.Dictionary.{each_utf8, stored_numbers, each_below, holds, most_bytes, ReadsNames, width_in, mark_in, is_dictionary, dictionary_rows}
+use Rattle.lexicon.specs.Dictionary.{dictionary_number, read_dictionary, name_in}
 
 -- both of two tests
 pub both : {a b : Bool} → (a && b) ≡ true → (a ≡ true) × (b ≡ true)

@@ -68,7 +68,8 @@ start_after d w (suc id) h = let e : suc id + 1 ≡ id + 2 = omega arith in rw e
 pub name_none : (d : List ℕ) (n id : ℕ) → n ≡ count_in d → n ≤ id → [] ≡ name_in d id
 name_none d n id e h = let l = length_by d in sym (get_or-eq_default (dictionary_names d) [] {n = id} (omega arith))
 
-pub name_part : (d : List ℕ) (w n id t s e : ℕ) → w ≡ width_in d → n ≡ count_in d → id < n → t ≡ 1 + w * (n + 2) → s ≡ start_in d w id → e ≡ number_at d (1 + w * (id + 2)) w
+pub name_part : (d : List ℕ) (w n id t s e : ℕ) → w ≡ width_in d → n ≡ count_in d → id < n → t ≡ 1 + w * (n + 2) → s ≡ start_in d w id
+    → e ≡ number_at d (1 + w * (id + 2)) w
     → take (t + e - (t + s)) (drop (t + s) d) ≡ name_in d id
 name_part d w n id t s e ew en h et es ee =
     let k : id < count_in d = omega arith in

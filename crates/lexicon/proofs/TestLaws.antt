@@ -15,7 +15,8 @@ use Rattle.encoding.proofs.PackedLaws.{Below}
 use Rattle.measure.specs.Measure.{number_at}
 use Rattle.metadata.specs.Names.{Name, cuts, risen, ascending}
 use Rattle.metadata.specs.Bytes.{joined, ends_from, first_byte, laid_out, numbers, names_in, dictionary_names}
-use Rattle.metadata.proofs.BytesLaws.{behind_first, layout_count, layout_zero, layout_ends, layout_text, layout_size, cuts_ends, length_cuts, joined_cuts, ends_cuts}
+use Rattle.metadata.proofs.BytesLaws.{behind_first, layout_count, layout_zero, layout_ends, layout_text, layout_size, cuts_ends, length_cuts, joined_cuts}
+use Rattle.metadata.proofs.BytesLaws.{ends_cuts}
 use Rattle.std.specs.Prelude.{Ok, Err}
 use Rattle.lexicon.specs.Dictionary.{each_utf8, stored_numbers, most_bytes, ReadsNames, width_in, mark_in, is_dictionary, read_dictionary, good_names}
 use Rattle.lexicon.proofs.ByteLaws.{below_drop, le_at, les_at, small_at, length_numbers, numbers_below}
@@ -133,7 +134,8 @@ layout_tests w mark ns r =
     let et : drop (1 + w * (length ns + 2)) d ≡ joined ns = rw (drop_first b (w * (length ns + 2)) bs) (layout_text w ns) in
     let l = layout_size w mark ns in
     let v = low_bits mark w r.least in
-    let g : good_names 0 (ends_from 0 ns) (joined ns) ≡ true = risen_good 0 (ends_from 0 ns) (joined ns) (rw zero-add at (risen_ends 0 ns)) (rw (cuts_ends 0 [] ns refl) r.text) in
+    let g : good_names 0 (ends_from 0 ns) (joined ns) ≡ true =
+    risen_good 0 (ends_from 0 ns) (joined ns) (rw zero-add at (risen_ends 0 ns)) (rw (cuts_ends 0 [] ns refl) r.text) in
     record {
       front = record {
         some = omega arith;

@@ -1,6 +1,7 @@
 -- document 02, A6, the pair's first half: "a whole dictionary of the stated layout, unused bits zero, UTF-8 names, the mark only if names
 -- ascend strictly". The layout is the writer's, at any width and with either mark; there is no reader in it.
-use Rattle.std.specs.Prelude.{◌≡◌, Bool, true, cond, not, ◌&&◌, ◌||◌, List, [], ◌∷◌, ℕ, zero, suc, ◌+◌, ◌-◌, ◌*◌, ◌^◌, ◌/◌, ◌%◌, ◌≤◌, eqb, leb, ltb, drop, get_or, length, take, Result, Ok, Err}
+use Rattle.std.specs.Prelude.{◌≡◌, Bool, true, cond, not, ◌&&◌, ◌||◌, List, [], ◌∷◌, ℕ, zero, suc, ◌+◌, ◌-◌, ◌*◌, ◌^◌, ◌/◌, ◌%◌, ◌≤◌, eqb, leb, ltb, drop}
+use Rattle.std.specs.Prelude.{get_or, length, take, Result, Ok, Err}
 use Rattle.encoding.specs.Rows.{Row, row}
 use Rattle.encoding.specs.Utf8.{utf8}
 use Rattle.measure.specs.Measure.{number_at}

@@ -1,4 +1,5 @@
 // The names that stand in a dictionary's bytes, by their ids. Nothing is judged: any bytes have names.
+// Kept (1d; no plainer): by definition (`name_in`) an id that is not held has the empty name, so that every id has one.
 ghost use Rattle.std.specs.Prelude.{◌≡◌, length};
 ghost use Rattle.metadata.specs.Names.{below as below_of, same as same_of};
 ghost use Rattle.metadata.specs.Bytes.{dictionary_names};

@@ -1,4 +1,5 @@
 // The stored numbers of a dictionary's bytes, and the names between them. Nothing is judged: any bytes have names.
+// Kept (1d; no plainer): by definition (`name_in`) an id that is not held has the empty name, so that every id has one.
 ghost use Rattle.std.specs.Prelude.{◌≡◌, ◌+◌, ◌*◌, ◌≤◌, ◌<◌, drop, length};
 ghost use Rattle.measure.specs.Measure.{number_at};
 ghost use Rattle.metadata.specs.Names.{ascending};
@@ -52,6 +53,7 @@ impl<'a> Stored<'a> {
     }
 
     // The name of an id, as the part of the bytes that it occupies; no bytes where there is none.
+    // Kept (2; no plainer): `Names` of metadata has `name`, `name_is_below` and `ascend`, too: see held.rt there.
     pub(crate) fn name(self, id: usize) -> &'a [u8]
         ensures { result.now ≡ name_in self.entry.bytes.now id }
     {
@@ -71,6 +73,7 @@ impl<'a> Stored<'a> {
     }
 
     // Do the ends behind the first offset rise to the end of the text, with UTF-8 between them?
+    // Kept (3; no plainer): the offsets are packed, so that there is no slice of them, and the end of a name is the start of the next.
     pub(crate) fn names_good(self) -> bool
         requires { 1 + self.width * (self.count + 2) ≤ length self.bytes.now }
         ensures { result ≡ good_names 0 (numbers self.entry.width self.entry.count (drop (1 + self.entry.width + self.entry.width) self.entry.bytes.now))
@@ -100,8 +103,5 @@ impl<'a> Stored<'a> {
 fn width_of(d: &[u8]) -> usize
     ensures { (result ≡ width_in d.now) × (result ≤ 4) }
 {
-    match d.first() {
-        Some(first) => usize::from(first >> 6) + 1,
-        None => 1,
-    }
+    d.first().map_or(1, |first| usize::from(first >> 6) + 1)
 }

@@ -23,7 +23,8 @@ pub record Starts (t : List ℕ) (w long all : ℕ) (l : List ℕ) (a : ℕ) (re
   pub size : length l ≡ long
   pub low : length rest ≤ all
 
-pub starts_start : (l values : List ℕ) (w at n : ℕ) → at + w * n ≤ length l → Starts (write at (les w (starts_in n 0 values)) l) w (length l) (length values) l at values n
+pub starts_start : (l values : List ℕ) (w at n : ℕ) → at + w * n ≤ length l
+    → Starts (write at (les w (starts_in n 0 values)) l) w (length l) (length values) l at values n
 starts_start l values w at n h = record { same = rw (sub_self (length values)); room = h; size = refl; low = omega arith }
 
 -- there is room for one more
@@ -31,7 +32,8 @@ pub starts_room : {t : List ℕ} {w long all : ℕ} {l : List ℕ} {a : ℕ} {re
 starts_room {left = zero} s h = absurd (omega arith)
 starts_room {w = w} {left = suc left} s h = omega (arith, mul-suc w left)
 
-pub starts_again : {t : List ℕ} {w long all : ℕ} {l : List ℕ} {a : ℕ} {rest : List ℕ} {left : ℕ} {m : List ℕ} (k : ℕ) → Starts t w long all l a rest left → 0 < left
+pub starts_again : {t : List ℕ} {w long all : ℕ} {l : List ℕ} {a : ℕ} {rest : List ℕ} {left : ℕ} {m : List ℕ} (k : ℕ) → Starts t w long all l a rest left
+    → 0 < left
     → m ≡ write a (le w (all - length rest)) l → k ≡ measured rest → Starts t w long all m (a + w) (take (length rest - k) (drop k rest)) (left - 1)
 unfolding les starts_in
 starts_again {left = zero} k s h e q = absurd (omega arith)
@@ -46,7 +48,8 @@ starts_again {w = w} {all = all} {l = l} {a = a} {rest = rest} {left = suc left}
     let n : length x ≡ w = length_le w (all - length rest) in
     let c = mul-suc w left in
     let tail = les w (starts_in left (all - length rest + k) next) in
-    let v : length tail ≡ w * left = length_les w (starts_in left (all - length rest + k) next) ∙ ap (λ j. w * j) (length_starts left (all - length rest + k) next) in
+    let v : length tail ≡ w * left =
+    length_les w (starts_in left (all - length rest + k) next) ∙ ap (λ j. w * j) (length_starts left (all - length rest + k) next) in
     let y : write a (x ++ tail) l ≡ _ = rw (← q) at s.same in
     let u = s.room in
     let z = s.size in
@@ -70,10 +73,12 @@ behind front rest q p end n h k =
     let e : end ≡ length front + (end - q) = omega arith in
     let f : p ≡ length front + (p - q) = omega arith in
     ap (λ i. data_in p i (front ++ rest)) e
-    ∙ (ap (drop p) (take-append-add front rest (end - q)) ∙ (ap (λ i. drop i (front ++ take (end - q) rest)) f ∙ drop-append-add front (take (end - q) rest) (p - q)))
+    ∙ (ap (drop p) (take-append-add front rest (end - q)) ∙ (ap (λ i. drop i (front ++ take (end - q) rest)) f
+    ∙ drop-append-add front (take (end - q) rest) (p - q)))
 
 -- bytes moved up are the same bytes
-pub data_shifted : (start used by : ℕ) (l : List ℕ) → start ≤ used → used + by ≤ length l → data_in (start + by) (used + by) (shift start used by l) ≡ data_in start used l
+pub data_shifted : (start used by : ℕ) (l : List ℕ) → start ≤ used → used + by ≤ length l
+    → data_in (start + by) (used + by) (shift start used by l) ≡ data_in start used l
 unfolding shift
 data_shifted start used by l h r =
     let q = start + by in
@@ -81,12 +86,15 @@ data_shifted start used by l h r =
     let z : q - q ≡ 0 = omega arith in
     let m : length (data_in start used l) ≡ used + by - q = length_data start used l ∙ omega arith in
     behind (take q l) (data_in start used l ++ drop (used + by) l) q q (used + by) n (omega arith) (omega arith)
-    ∙ (ap (λ i. data_in i (used + by - q) (data_in start used l ++ drop (used + by) l)) z ∙ take_at (data_in start used l) (drop (used + by) l) (used + by - q) m)
+    ∙ (ap (λ i. data_in i (used + by - q) (data_in start used l ++ drop (used + by) l)) z
+    ∙ take_at (data_in start used l) (drop (used + by) l) (used + by - q) m)
 
 -- it is as it was
 pub cut_shifted : (start used by : ℕ) (l : List ℕ) → start ≤ used → used + by ≤ length l
     → drop by (take (used + by - start) (drop start (shift start used by l))) ≡ data_in start used l
-cut_shifted start used by l h r = ap (drop by) (data_cut start (used + by) (shift start used by l)) ∙ (data_drop by start (used + by) (shift start used by l) ∙ data_shifted start used by l h r)
+cut_shifted start used by l h r =
+    ap (drop by) (data_cut start (used + by) (shift start used by l))
+    ∙ (data_drop by start (used + by) (shift start used by l) ∙ data_shifted start used by l h r)
 
 -- the bytes from one place on are those up to another, and those from there on
 pub data_joined : (p q : ℕ) (l : List ℕ) → p ≤ q → q ≤ length l → drop p l ≡ data_in p q l ++ drop q l

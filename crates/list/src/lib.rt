@@ -23,4 +23,4 @@
 mod close;
 mod starts;
 
-pub use close::close_list;
+pub use close::{ListFrame, close_list};

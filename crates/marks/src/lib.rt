@@ -21,13 +21,11 @@ const NO_MARK: Mark = Mark {
 };
 
 // Mark j, counted from 1, of the container at depth d, counted from 0.
+#[tactic(auto, using(crate::proofs::TableLaws::mark_beyond))]
 pub fn mark_at(marks: &[usize; NUMBERS], d: usize, j: usize) -> Mark
     ensures { result ≡ mark_at marks.now (slot_of d j) }
 {
-    match place_of(d, j) {
-        Some(p) => read(marks, p),
-        None => NO_MARK,
-    }
+    place_of(d, j).map_or(NO_MARK, |p| read(marks, p))
 }
 
 // The same, written.
@@ -39,6 +37,7 @@ pub fn put_mark(marks: &mut [usize; NUMBERS], d: usize, j: usize, m: Mark)
     }
 }
 
+// Kept (6; no plainer): the definition (`mark_at`) reads seven places of the table from p on, as this does; over a part of it each would take a law.
 fn read(marks: &[usize; NUMBERS], p: usize) -> Mark
     requires { p ≤ 7161 }
     ensures { result ≡ mark_at marks.now p }
@@ -54,6 +53,7 @@ fn read(marks: &[usize; NUMBERS], p: usize) -> Mark
     }
 }
 
+// Kept (6; no plainer): as `read`, of `put_mark`.
 fn write(marks: &mut [usize; NUMBERS], p: usize, m: Mark)
     requires { p ≤ 7161 }
     ensures { marks.new ≡ put_mark marks.old p m }
@@ -75,6 +75,7 @@ pub fn marks_fit(marks: &[usize; NUMBERS], d: usize, k: Container, present: Mark
 }
 
 // From the latest mark to the first, and to the container's start: none is above the one after it.
+// Kept (3; no plainer): marks are had by their numbers, and each is compared with the one after it, `later`.
 fn in_order(marks: &[usize; NUMBERS], d: usize, k: Container, present: Mark) -> bool
     ensures { result ≡ falling k.object (mark_at_start k) (marks_of marks.now d k.marks) present }
 {
@@ -90,6 +91,8 @@ fn in_order(marks: &[usize; NUMBERS], d: usize, k: Container, present: Mark) -> 
 }
 
 // Of an object the count is free.
+// Kept (2; no plainer): `under` of records asks five of these of two lent containers, which would first be copied into marks.
+// Kept (1c; no plainer): `object` is the container's kind, the same for all its marks.
 fn not_above(object: bool, p: Mark, q: Mark) -> bool
     ensures { result ≡ not_above object p q }
 {

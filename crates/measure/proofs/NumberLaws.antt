@@ -50,7 +50,8 @@ take_fewer zero l = refl
 take_fewer (suc zero) l = grind arith
 take_fewer (suc (suc zero)) l = grind arith
 take_fewer (suc (suc (suc zero))) l = grind arith
-take_fewer (suc (suc (suc (suc n)))) l = let e : min (suc (suc (suc (suc n)))) 4 ≡ 4 = omega arith in rw e (take-take 4 (suc (suc (suc (suc n)))) l (omega arith))
+take_fewer (suc (suc (suc (suc n)))) l =
+    let e : min (suc (suc (suc (suc n)))) 4 ≡ 4 = omega arith in rw e (take-take 4 (suc (suc (suc (suc n)))) l (omega arith))
 
 -- as many bytes as are there, from a place within what is there; of them four at most
 pub number_there : (v : List ℕ) (at size p k r : ℕ) → p ≡ min at (length v) → k ≡ min size (length (take (length v - p) (drop p v)))

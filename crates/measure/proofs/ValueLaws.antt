@@ -13,7 +13,8 @@ use Rattle.encoding.specs.Packed.{le, les}
 use Rattle.encoding.proofs.PackedLaws.{length_le, length_les, number_le}
 use Rattle.value.specs.declared.decoder.VariantPrimitiveType.TheVariants as type
 use Rattle.value.specs.declared.variant.Variant.{Variant}
-use Rattle.value.specs.declared.variant.Variant.TheVariants.{Null, Int8, Int16, Int32, Int64, Date, TimestampMicros, TimestampNtzMicros, TimestampNanos, TimestampNtzNanos, Decimal4, Decimal8, Decimal16, Float, Double, BooleanTrue, BooleanFalse, Time}
+use Rattle.value.specs.declared.variant.Variant.TheVariants.{Null, Int8, Int16, Int32, Int64, Date, TimestampMicros, TimestampNtzMicros, TimestampNanos}
+use Rattle.value.specs.declared.variant.Variant.TheVariants.{TimestampNtzNanos, Decimal4, Decimal8, Decimal16, Float, Double, BooleanTrue, BooleanFalse, Time}
 use Rattle.value.specs.declared.variant.VariantBytes.{VariantBytes}
 use Rattle.value.specs.declared.variant.VariantBytes.TheVariants.{Binary, String, ShortString, Text}
 use Rattle.value.specs.Scalar.{Stored, primitive, short, Scalar, first_byte, scalar_bytes, stored_variant, stored_bytes, stored_uuid, long, plain, Whole}
@@ -59,7 +60,8 @@ offset_digit x w z h e =
     let r = low_digit (x / 4) z (w - 1) (omega arith) q in
     omega arith
 
-object_bits : (w v : ℕ) (big : Bool) → Width w → Width v → (object_byte w v big / 4 % 4 + 1 ≡ w) × (object_byte w v big / 16 % 4 + 1 ≡ v) × (eqb (object_byte w v big / 64 % 2) 1 ≡ big)
+object_bits : (w v : ℕ) (big : Bool) → Width w → Width v
+    → (object_byte w v big / 4 % 4 + 1 ≡ w) × (object_byte w v big / 16 % 4 + 1 ≡ v) × (eqb (object_byte w v big / 64 % 2) 1 ≡ big)
 object_bits w v true h k =
     let b = object_byte w v true in
     let p : b / 64 ≡ 1 = omega arith in
@@ -84,7 +86,8 @@ value_measured {bytes} v rest =
     rw (v.told rest, le-leb (length bytes) (length (bytes ++ rest)) (omega arith)) refl
 
 -- a header followed by as many bytes as it says
-with_data : (header bytes : List ℕ) → 0 < length header → ((rest : List ℕ) → value_length (header ++ rest) ≡ length header + length bytes) → Value (header ++ bytes)
+with_data : (header bytes : List ℕ) → 0 < length header → ((rest : List ℕ) → value_length (header ++ rest) ≡ length header + length bytes)
+    → Value (header ++ bytes)
 with_data header bytes h f =
     let l = length-append header bytes in
     record { some = omega arith; told = λ rest. rw append_assoc (f (bytes ++ rest) ∙ sym l) }
@@ -137,9 +140,13 @@ bytes_known Text bytes = plain_known bytes
 pub uuid_known : (id : List ℕ) → Known (stored_uuid id).stored_type
 uuid_known id = omega arith
 
-scalar_kind : (s : Stored) (n : ℕ) → Known s → (eqb (first_byte s n % 4) 3 ≡ false) × (eqb (first_byte s n % 4) 2 ≡ false) × ((eqb (first_byte s n % 4) 1 || leb (first_byte s n / 4) 20) ≡ true)
-scalar_kind (primitive c) n h =
-    (ne_eqb (4 * c % 4) 3 (omega arith), ne_eqb (4 * c % 4) 2 (omega arith), (rw (ne_eqb ((4 * c) % 4) 1 (omega arith)) (le-leb ((4 * c) / 4) 20 (omega arith))))
+scalar_kind : (s : Stored) (n : ℕ) → Known s
+    → (eqb (first_byte s n % 4) 3 ≡ false) × (eqb (first_byte s n % 4) 2 ≡ false) × ((eqb (first_byte s n % 4) 1 || leb (first_byte s n / 4) 20) ≡ true)
+scalar_kind (primitive c) n h = (
+  ne_eqb (4 * c % 4) 3 (omega arith),
+  ne_eqb (4 * c % 4) 2 (omega arith),
+  (rw (ne_eqb ((4 * c) % 4) 1 (omega arith)) (le-leb ((4 * c) / 4) 20 (omega arith))),
+)
 scalar_kind short n h = (ne_eqb ((4 * n + 1) % 4) 3 (omega arith), ne_eqb ((4 * n + 1) % 4) 2 (omega arith), (rw (eq-eqb ((4 * n + 1) % 4) 1 (omega arith))))
 
 pub scalar_told : (s : Scalar) (rest : List ℕ) → Whole s → Known s.stored_type → value_length (scalar_bytes s ++ rest) ≡ length (scalar_bytes s)
@@ -162,7 +169,8 @@ list_told w big os n rest h c s =
     let t = list_bits w big h in
     let k = eq-eqb (b % 4) 3 (list_kind w big) in
     let l = length_list_at w big os n in
-    let a : (le (count_size big) (length os) ++ (les w os ++ le w n)) ++ rest ≡ le (count_size big) (length os) ++ (les w os ++ (le w n ++ rest)) = simp append_assoc in
+    let a : (le (count_size big) (length os) ++ (les w os ++ le w n)) ++ rest ≡ le (count_size big) (length os) ++ (les w os ++ (le w n ++ rest)) =
+    simp append_assoc in
     let r = container_read w 0 (count_size big) b (length os) n (les w os) rest (rw zero-add (length_les w os)) c s in
     let m = mul-add w (length os) 1 in
     rw (k, t.0, t.1, a, r) (omega arith)
@@ -174,7 +182,8 @@ list_value w big os bytes h =
 
 -- ---- an object, alike
 
-pub object_told : (w v : ℕ) (big : Bool) (is os : List ℕ) (n : ℕ) (rest : List ℕ) → Width w → Width v → length is < 256 ^ count_size big → length os ≡ length is → n < 256 ^ w
+pub object_told : (w v : ℕ) (big : Bool) (is os : List ℕ) (n : ℕ) (rest : List ℕ) → Width w → Width v → length is < 256 ^ count_size big → length os ≡ length is
+    → n < 256 ^ w
     → value_length (object_header_at w v big is os n ++ rest) ≡ length (object_header_at w v big is os n) + n
 unfolding value_length object_header_at
 object_told w v big is os n rest h i c e s =
@@ -183,7 +192,8 @@ object_told w v big is os n rest h i c e s =
     let k = eq-eqb (b % 4) 2 (object_kind w v big) in
     let j = ne_eqb (b % 4) 3 (omega (arith, object_kind w v big)) in
     let l = length_object_at w v big is os n e in
-    let a : (le (count_size big) (length is) ++ (les v is ++ (les w os ++ le w n))) ++ rest ≡ le (count_size big) (length is) ++ ((les v is ++ les w os) ++ (le w n ++ rest)) = simp append_assoc in
+    let a : (le (count_size big) (length is) ++ (les v is ++ (les w os ++ le w n))) ++ rest
+    ≡ le (count_size big) (length is) ++ ((les v is ++ les w os) ++ (le w n ++ rest)) = simp append_assoc in
     let x = length-append (les v is) (les w os) in
     let y = length_les v is in
     let z = length_les w os in
@@ -193,7 +203,8 @@ object_told w v big is os n rest h i c e s =
     let m = mul-add w (length is) 1 in
     rw (j, k, t.0, t.1, t.2, a, r) (omega arith)
 
-pub object_value : (w v : ℕ) (big : Bool) (is os bytes : List ℕ) → HoldsObject w v big is os (length bytes) → Value (object_header_at w v big is os (length bytes) ++ bytes)
+pub object_value : (w v : ℕ) (big : Bool) (is os bytes : List ℕ) → HoldsObject w v big is os (length bytes)
+    → Value (object_header_at w v big is os (length bytes) ++ bytes)
 object_value w v big is os bytes h =
     let l = length_object_at w v big is os (length bytes) h.pairs in
     with_data (object_header_at w v big is os (length bytes)) bytes (omega arith)

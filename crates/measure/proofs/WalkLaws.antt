@@ -21,7 +21,8 @@ pub whole_fits : (r : ℕ) (bytes : List ℕ) → Some r ≡ some_length (measur
 whole_fits r bytes e = let f = (some_is r (measured bytes) e).0 in omega (arith, measured_within bytes)
 
 -- of n values one is there, and the others are behind it; or it is not there; or there is none left to be met
-pub whole_again : (n m r : ℕ) (bytes : List ℕ) → n ≡ suc m → Some r ≡ some_length (measured bytes) → whole_values m (take (length bytes - r) (drop r bytes)) ≡ whole_values n bytes
+pub whole_again : (n m r : ℕ) (bytes : List ℕ) → n ≡ suc m → Some r ≡ some_length (measured bytes)
+    → whole_values m (take (length bytes - r) (drop r bytes)) ≡ whole_values n bytes
 unfolding whole_values
 whole_again n m r bytes h e =
     let f = some_is r (measured bytes) e in

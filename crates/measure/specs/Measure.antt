@@ -1,6 +1,7 @@
 -- document 02, A8, "A value is measured by its first byte, unused bits passed over, and stored lengths; a type code above 20 is no
 -- value."
-use Rattle.std.specs.Prelude.{Bool, Option, Some, None, cond, ◌&&◌, ◌||◌, List, [], ◌∷◌, ◌≡◌, ℕ, zero, suc, ◌+◌, ◌*◌, ◌/◌, ◌%◌, ◌<◌, ◌≤◌, eqb, leb, ltb, drop, get_or, length, take}
+use Rattle.std.specs.Prelude.{Bool, Option, Some, None, cond, ◌&&◌, ◌||◌, List, [], ◌∷◌, ◌≡◌, ℕ, zero, suc, ◌+◌, ◌*◌, ◌/◌, ◌%◌, ◌<◌, ◌≤◌, eqb, leb, ltb, drop}
+use Rattle.std.specs.Prelude.{get_or, length, take}
 use Rattle.encoding.specs.Packed.{number}
 use Rattle.value.specs.Scalar.{scalar_length}
 use Rattle.container.specs.Layout.{count_size}

@@ -1,5 +1,5 @@
 // A value's length by its first bytes.
-ghost use Rattle.std.specs.Prelude.{◌≡◌, ◌+◌, ◌*◌, ◌≤◌, ◌<◌, ◌^◌, min, ◌∷◌, [], length, get_or, take};
+ghost use Rattle.std.specs.Prelude.{◌≡◌, ◌+◌, ◌*◌, ◌%◌, ◌≤◌, ◌<◌, ◌^◌, eqb, min, ◌∷◌, [], length, get_or, take};
 ghost use Rattle.encoding.specs.Packed.{number};
 ghost use Rattle.container.specs.Layout.{count_size};
 ghost use Rattle.measure.specs.Measure.{Numbered, Read, Told, container_length, known_length, measured, number_at, some_length};
@@ -49,34 +49,37 @@ fn typed_length(v: &[u8], code: usize) -> Option<usize>
 fn list_length(v: &[u8], b: usize) -> Option<usize>
     ensures { Told v.now (list_length_of b v.now) result }
 {
-    container_length(v, (b >> 2 & 3) + 1, 0, b >> 4 & 1 == 1)
+    container_length(v, (b >> 2 & 3) + 1, 0, count_size(b >> 4))
 }
 
 #[inline(never)]
 fn object_length(v: &[u8], b: usize) -> Option<usize>
     ensures { Told v.now (object_length_of b v.now) result }
 {
-    container_length(v, (b >> 2 & 3) + 1, (b >> 4 & 3) + 1, b >> 6 & 1 == 1)
+    container_length(v, (b >> 2 & 3) + 1, (b >> 4 & 3) + 1, count_size(b >> 6))
 }
 
-// With w bytes an offset, `ids` an id, and a count of four bytes or one. However the count was altered, the sum is below 2 ^ 37.
-fn container_length(v: &[u8], w: usize, ids: usize, large: bool) -> Option<usize>
-    requires { (1 ≤ w) × (w ≤ 4) × (ids ≤ 4) }
-    ensures { Told v.now (container_length w ids (count_size large) v.now) result }
+// With w bytes an offset, `ids` an id, and c the count. However the count was altered, the sum is below 2 ^ 37.
+fn container_length(v: &[u8], w: usize, ids: usize, c: usize) -> Option<usize>
+    requires { (1 ≤ w) × (w ≤ 4) × (ids ≤ 4) × (c ≤ 4) }
+    ensures { Told v.now (container_length w ids c v.now) result }
 {
-    let c = count_size(large);
     let last = 1 + c + (ids + w) * number_at(v, 1, c)?;
     Some(last + w + number_at(v, last, w)?)
 }
 
-fn count_size(large: bool) -> usize
-    ensures { result ≡ count_size large }
+// The bytes of a count, by the large bit, here the lowest.
+// Kept (2; no plainer): `count_size` of container asks a count, this one a bit; each is one line.
+fn count_size(bits: usize) -> usize
+    ensures size { result ≡ count_size (eqb (bits % 2) 1) }
+    ensures high { result ≤ 4 }
 {
-    if large { 4 } else { 1 }
+    if bits & 1 == 1 { 4 } else { 1 }
 }
 
 // The number in `size` bytes at place `at`, lowest first: in four where more are asked for, in fewer where fewer are there,
-// so that no number is missing and none is an `Option`.
+// so that no number is missing.
+// Kept (1d, 6; no plainer): every place is answered, also one past the bytes, from which there is no slice: of no bytes the number is 0.
 pub fn read_packed(v: &[u8], at: usize, size: usize) -> usize
     ensures { Numbered v.now at (min size 4) result }
 {
@@ -85,6 +88,7 @@ pub fn read_packed(v: &[u8], at: usize, size: usize) -> usize
 }
 
 // The number in w bytes at place p, where they are there.
+// Kept (6; no plainer): here the slice of them is made; each caller would make it by the same two `get`.
 fn number_at(v: &[u8], p: usize, w: usize) -> Option<usize>
     requires { w ≤ 4 }
     ensures { Read v.now p w result }

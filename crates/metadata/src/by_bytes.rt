@@ -3,6 +3,7 @@ ghost use Rattle.std.specs.Prelude.{◌≡◌, ◌-◌, drop, take};
 ghost use Rattle.metadata.specs.Names.{same as same_of};
 
 // Are the two names one? The last bytes are compared first: names that begin alike, as those of a numbered row, mostly differ there.
+// Kept (4; speed): `==` alone was tried; a record of eight fields whose names differ in the last byte took a fifth more instructions.
 pub fn same(a: &[u8], b: &[u8]) -> bool
     ensures { result ≡ same_of a.now b.now }
 {
@@ -10,6 +11,7 @@ pub fn same(a: &[u8], b: &[u8]) -> bool
 }
 
 // What lies between two places, as far as there is text.
+// Kept (1d, 6; no plainer): it makes the slice of the two places; where they fall or lie beyond the text it is empty by definition (`take`, `drop`).
 pub fn part(text: &[u8], start: usize, end: usize) -> &[u8]
     ensures { result.now ≡ take (end - start) (drop start text.now) }
 {

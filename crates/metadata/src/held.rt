@@ -27,6 +27,8 @@ impl<'a> Names<'a> {
     }
 
     // Is the name of id a below that of id b, by bytes? An id that is not held has the empty name.
+    // Kept (2; no plainer): `Stored` of lexicon has `name`, this and `ascend`, too; a trait with a ghost list of names and its laws, for six lines that
+    // both have, would be longer than they are, and `name` reads lent numbers here and packed bytes there.
     pub fn name_is_below(self, a: usize, b: usize) -> bool
         ensures { result ≡ below_of (get_or (names_of self.entry.counts self.entry.text.now self.entry.ends.now) a [])
             (get_or (names_of self.entry.counts self.entry.text.now self.entry.ends.now) b []) }

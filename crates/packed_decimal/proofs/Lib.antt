@@ -3,3 +3,4 @@ pub mod StoredLaws
 pub mod ReadLaws
 pub mod WriteLaws
 pub mod PackedDecimalLaws
+pub mod NamedLaws

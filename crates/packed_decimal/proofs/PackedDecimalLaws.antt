@@ -8,7 +8,6 @@ use native.Mathlib.Nat.{suc_inj, pow-suc, mul_assoc, mul-le-mul_right, lt_of_le_
 use lib.Dec.{leb, ltb, lit<}
 use lib.IntN.{ℤ, pos, negsuc, nat_abs}
 use lib.ListN.{length, length-append}
-use lib.Seq.{get_or-append_seam}
 use borrow.Author.Tests.{ltb-false, le-ltb, leb-true}
 use Rattle.encoding.specs.Rows.{Clear, first, in_order, order}
 use Rattle.encoding.specs.Signed.{whole}
@@ -19,7 +18,7 @@ use Rattle.packed_decimal.specs.PackedDecimal.{continued, digit_above9, digits, 
 use Rattle.packed_decimal.specs.PackedDecimal.{high_half, in_halves, low_half, packed_variant, smallest}
 use Rattle.packed_decimal.specs.PackedDecimal.{byte_of, digit_pairs, packed_bytes, pairs, sign_of}
 use Rattle.packed_decimal.specs.Calls.{packed_rows, too_large, way_back_rows}
-use Rattle.packed_decimal.proofs.ReadLaws.{Packed, abs_packed, neither, packed, packed_holds}
+use Rattle.packed_decimal.proofs.ReadLaws.{Packed, abs_packed, last_sign, neither, packed, packed_holds}
 use Rattle.packed_decimal.proofs.WriteLaws.{pairs_few}
 
 -- ---- the rows stand in the table's order
@@ -124,12 +123,6 @@ paired_small [] b k h = rw (le-ltb 9 (b / 16) h)
 paired_small (p ∷ []) b k h = rw (le-ltb 9 (p / 16) k.0, le-ltb 9 (p % 16) k.1, le-ltb 9 (b / 16) h)
 paired_small (p ∷ q ∷ ps) b k h = rw (le-ltb 9 (p / 16) k.0, le-ltb 9 (p % 16) k.1) (paired_small (q ∷ ps) b k.2 h)
 
-last_sign : (ps : List ℕ) (b : ℕ) → sign (ps ++ (b ∷ [])) ≡ b % 16
-unfolding sign
-last_sign ps b =
-    let e : length (ps ++ (b ∷ [])) - 1 ≡ length ps = simp length-append (omega arith) in
-    rw (e, get_or-append_seam)
-
 -- ---- the written form
 
 sign_small : (z : ℤ) → sign_of z < 16
@@ -140,7 +133,7 @@ written_sign : (z : ℤ) → sign (packed_bytes z) ≡ sign_of z
 unfolding packed_bytes
 written_sign z =
     let s = sign_small z in
-    last_sign (digit_pairs (nat_abs z / 10)) (byte_of (nat_abs z % 10) (sign_of z)) ∙ omega arith
+    sym (last_sign (digit_pairs (nat_abs z / 10)) (byte_of (nat_abs z % 10) (sign_of z))) ∙ omega arith
 
 written_magnitude : (z : ℤ) → magnitude (packed_bytes z) ≡ nat_abs z
 unfolding packed_bytes

@@ -3,30 +3,32 @@ use mathlib.Core.Path.{◌≡◌, refl, sym, ◌∙◌, ap}
 use mathlib.Core.Bool.{Bool, true, false, not, ◌||◌, true≢false, or-false, or-true}
 use mathlib.Core.List.{List, [], ◌∷◌, ◌++◌}
 use mathlib.Core.Option.{some}
-use Prim.Native.Nat.{ℕ, suc, ◌+◌, ◌-◌, ◌*◌, ◌/◌, ◌%◌, ◌^◌, ◌≤◌, ◌<◌, min}
+use Prim.Native.Nat.{ℕ, ◌+◌, ◌-◌, ◌*◌, ◌/◌, ◌%◌, ◌^◌, ◌≤◌, ◌<◌, min}
 use native.Mathlib.Omega.{arith}
-use lib.Dec.{ltb, eqb, lit<}
+use lib.Dec.{leb, ltb, eqb, lit<}
 use lib.IntN.{nat_abs}
-use lib.ListN.{get_or, length, take}
-use lib.Seq.{take-suc, take-length}
-use borrow.Author.Tests.{ltb-true, ltb-false, lt-ltb, le-ltb, eqb-false, eq-eqb, ne_eqb, not-false}
+use lib.ListN.{length, length-append}
+use lib.Seq.{get_or-append_seam}
+use borrow.Author.Tests.{ltb-true, ltb-false, lt-ltb, le-ltb, le-leb, eqb-false, eq-eqb, ne_eqb, not-false}
 use Rattle.value.specs.declared.variant.Variant.{Variant}
 use Rattle.encoding.specs.Rows.{first}
 use Rattle.std.specs.List.{fold, list_any}
 use Rattle.packed_decimal.specs.Capped.{limit, with_pair}
-use Rattle.packed_decimal.specs.PackedDecimal.{digits, digit_above9, continued, magnitude, not_packed, packed_value, packed_variant}
+use Rattle.packed_decimal.specs.PackedDecimal.{digits, digit_above9, continued, magnitude, not_packed, packed_value}
 use Rattle.packed_decimal.specs.PackedDecimal.{is_minus, is_plus, sign, signed, smallest}
-use Rattle.packed_decimal.specs.Calls.{ReadsPacked, packed_rows, too_large}
+use Rattle.packed_decimal.specs.Calls.{ReadsPacked, too_large}
 use Rattle.std.specs.Prelude.{Ok, Err}
 use Rattle.packed_decimal.specs.declared.read.PackedError.TheVariants.{NotPacked, OutOfRange}
 use Rattle.packed_decimal.proofs.StoredLaws.{abs_signed}
 
 -- ---- the last byte, and those before it
 
-pub last_apart : (bs : List ℕ) → 0 < length bs → take (length bs - 1) bs ++ (get_or bs (length bs - 1) 0 ∷ []) ≡ bs
-last_apart bs h =
-    let e : suc (length bs - 1) ≡ length bs = omega arith in
-    sym (take-suc bs (length bs - 1) 0 (omega arith)) ∙ (rw e (take-length bs))
+pub length_form : (ps : List ℕ) (b : ℕ) → length (ps ++ (b ∷ [])) ≡ length ps + 1
+length_form ps b = length-append ps (b ∷ [])
+
+pub last_sign : (ps : List ℕ) (b : ℕ) → b % 16 ≡ sign (ps ++ (b ∷ []))
+unfolding sign
+last_sign ps b = let n = length_form ps b in let e : length (ps ++ (b ∷ [])) - 1 ≡ length ps = omega arith in rw (e, get_or-append_seam)
 
 -- a byte with a digit above 9
 abbrev above : ℕ → Bool
@@ -49,10 +51,11 @@ above_pairs (p ∷ q ∷ ps) b = go (ltb 9 (p / 16)) (ltb 9 (p % 16)) (above_pai
     go false true i = refl
     go false false i = i
 
-pub above_all : (bs : List ℕ) → 0 < length bs
-    → (list_any above (take (length bs - 1) bs) || ltb 9 (get_or bs (length bs - 1) 0 / 16)) ≡ digit_above9 (digits bs)
-above_all bs h =
-    above_pairs (take (length bs - 1) bs) (get_or bs (length bs - 1) 0) ∙ ap (λ l. digit_above9 (digits l)) (last_apart bs h)
+pub above_first : (ps : List ℕ) (b : ℕ) {t : Bool} → t ≡ list_any above ps → t ≡ true → t ≡ digit_above9 (digits (ps ++ (b ∷ [])))
+above_first ps b p e = e ∙ (rw (sym p ∙ e) at (above_pairs ps b))
+
+pub above_last : (ps : List ℕ) (b : ℕ) {t : Bool} → t ≡ list_any above ps → t ≡ false → ltb 9 (b / 16) ≡ digit_above9 (digits (ps ++ (b ∷ [])))
+above_last ps b p e = rw (sym p ∙ e) at (above_pairs ps b)
 
 -- ---- the number that the digits make
 
@@ -63,7 +66,7 @@ kept l a d = omega arith
 pair_kept : (l a d e : ℕ) → min (min (min a l * 10 + d) l * 10 + e) l ≡ min ((a * 10 + d) * 10 + e) l
 pair_kept l a d e = rw (kept l a d) (kept l (a * 10 + d) e)
 
-made_of : (a : ℕ) (ps : List ℕ) (b : ℕ) → min (fold with_pair (min a limit) ps * 10 + b / 16) limit ≡ min (continued a (digits (ps ++ (b ∷ [])))) limit
+pub made_of : (a : ℕ) (ps : List ℕ) (b : ℕ) → min (fold with_pair (min a limit) ps * 10 + b / 16) limit ≡ min (continued a (digits (ps ++ (b ∷ [])))) limit
 unfolding digits continued
 made_of a [] b = kept limit a (b / 16)
 made_of a (p ∷ []) b =
@@ -72,11 +75,6 @@ made_of a (p ∷ []) b =
 made_of a (p ∷ q ∷ ps) b =
     let n = (a * 10 + p / 16) * 10 + p % 16 in
     ap (λ m. min (fold with_pair m (q ∷ ps) * 10 + b / 16) limit) (pair_kept limit a (p / 16) (p % 16)) ∙ made_of n (q ∷ ps) b
-
-pub made_all : (bs : List ℕ) → 0 < length bs
-    → min (fold with_pair 0 (take (length bs - 1) bs) * 10 + get_or bs (length bs - 1) 0 / 16) limit ≡ min (magnitude bs) limit
-made_all bs h =
-    made_of 0 (take (length bs - 1) bs) (get_or bs (length bs - 1) 0) ∙ ap (λ l. min (magnitude l) limit) (last_apart bs h)
 
 pub neither : (s : Bool) {t : Bool} → (s || t) ≡ false → (s ≡ false) × (t ≡ false)
 neither true e = absurd (true≢false e)
@@ -109,15 +107,24 @@ pub without_bytes : (bs : List ℕ) → length bs ≡ 0 → true ≡ not_packed 
 unfolding not_packed
 without_bytes bs h = rw (eq-eqb (length bs) 0 h)
 
-pub over_twenty : (bs : List ℕ) → 20 < length bs → true ≡ not_packed bs
+-- the bytes before the last, a digit or the sign tells
+pub many_tell : (ps : List ℕ) (b : ℕ) → 20 ≤ length ps → leb 20 (length ps) ≡ not_packed (ps ++ (b ∷ []))
 unfolding not_packed
-over_twenty bs h = rw (lt-ltb 20 (length bs) h, or-true)
+many_tell ps b h =
+    let n = length_form ps b in
+    rw (le-leb 20 (length ps) h, lt-ltb 20 (length (ps ++ (b ∷ []))) (omega arith), or-true)
 
--- what the digits and the sign tell of 1 to 20 bytes
-pub by_halves_alone : (bs : List ℕ) → (length bs ≡ 0 → ⊥) → length bs ≤ 20
-    → (digit_above9 (digits bs) || not (is_plus (sign bs) || is_minus (sign bs))) ≡ not_packed bs
+pub digit_tells : (ps : List ℕ) (b : ℕ) {d : Bool} → d ≡ digit_above9 (digits (ps ++ (b ∷ []))) → d ≡ true → d ≡ not_packed (ps ++ (b ∷ []))
 unfolding not_packed
-by_halves_alone bs h k = rw (ne_eqb (length bs) 0 h, le-ltb 20 (length bs) k)
+digit_tells ps b p e = e ∙ rw (sym p ∙ e, or-true, or-true)
+
+pub sign_tells : (ps : List ℕ) (b : ℕ) {d s : Bool} → length ps < 20 → d ≡ digit_above9 (digits (ps ++ (b ∷ []))) → d ≡ false
+    → s ≡ (is_plus (sign (ps ++ (b ∷ []))) || is_minus (sign (ps ++ (b ∷ [])))) → not s ≡ not_packed (ps ++ (b ∷ []))
+unfolding not_packed
+sign_tells ps b h p e q =
+    let bs = ps ++ (b ∷ []) in
+    let n = length_form ps b in
+    rw (ne_eqb (length bs) 0 (λ z. absurd (omega arith)), le-ltb 20 (length bs) (omega arith), sym p ∙ e, q)
 
 -- ---- the answers
 
@@ -163,10 +170,3 @@ module _ {bs : List ℕ} {scale n : ℕ} {t : Bool} (m : Measured bs scale n t) 
       let g = sym same_large ∙ f in
       let e = cut_whole (10 ^ 38 - 1) limit (magnitude bs) n (lit< tt) m.is (within f) in
       record { number = rw (m.good, g); variant = rw (m.good, g) (ap some (q ∙ ap (λ k. smallest scale (signed (is_minus (sign bs)) k)) e)) }
-
--- what a caller learns that was given a scalar
-pub read_stored : {bs : List ℕ} {scale : ℕ} {v : Variant} → ReadsPacked bs scale (Ok v) → (first (packed_rows bs scale) ≡ 0) × (v ≡ packed_variant bs scale)
-read_stored {bs} {scale} {v} r =
-    let e = sym r.number in
-    let q : some v ≡ some (packed_variant bs scale) = rw e at r.variant in
-    (e, cc)

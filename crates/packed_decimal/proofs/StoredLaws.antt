@@ -1,44 +1,42 @@
 -- What is stored: a magnitude with its sign, and the smallest decimal that holds it.
-use mathlib.Core.Path.{◌≡◌, refl, ◌∙◌, ap}
+use mathlib.Core.Path.{◌≡◌, refl}
 use mathlib.Core.Bool.{Bool, true, false}
-use Prim.Native.Nat.{ℕ, zero, suc, ◌-◌, ◌^◌, ◌≤◌, ◌<◌}
+use Prim.Native.Nat.{ℕ, zero, suc, ◌-◌, ◌*◌, ◌^◌, ◌≤◌, ◌<◌}
 use native.Mathlib.Omega.{arith}
-use lib.IntN.{ℤ, nat_abs}
+use native.Mathlib.Nat.{div-lt_iff_lt-mul}
+use lib.Dec.{lit<}
+use lib.Signed.{mag, shr_z}
+use lib.IntN.{ℤ, pos, negsuc, nat_abs}
 use borrow.Author.Tests.{le-leb, lt-leb}
-use mir.Syntax.{Width}
-use mir.Val.{SFits, hbits, of_z, to_z}
-use mir.ValLaws.{to_z-of_z}
+use Rattle.std.specs.Int.{int_rem_euclid}
 use Rattle.value.specs.declared.variant.Variant.TheVariants.{Decimal4, Decimal8, Decimal16}
-use Rattle.packed_decimal.specs.PackedDecimal.{in_halves, signed, smallest}
-
--- ---- a magnitude with a sign
-
-pub signed_fits : (w : Width) (t : Bool) (n : ℕ) → n < 2 ^ hbits w → SFits w (signed t n)
-signed_fits w false n h = record { sfits = h }
-signed_fits w true zero h = record { sfits = h }
-signed_fits w true (suc n) h = record { sfits = omega arith }
-
--- it is handed on as it is
-pub handed : (w : Width) {a : ℤ} (t : Bool) (n : ℕ) → n < 2 ^ hbits w → a ≡ signed t n → to_z w (of_z w a) ≡ signed t n
-handed w t n h e = ap (λ z. to_z w (of_z w z)) e ∙ to_z-of_z w (signed t n) (signed_fits w t n h)
+use Rattle.packed_decimal.specs.PackedDecimal.{in_halves, low_half, signed, smallest}
 
 pub abs_signed : (t : Bool) (n : ℕ) → nat_abs (signed t n) ≡ n
 abs_signed true zero = refl
 abs_signed true (suc n) = refl
 abs_signed false n = refl
 
+-- the high half fits in 64 bits
+pub high_fits : (z : ℤ) → mag z < 2 ^ 63 * 2 ^ 64 → mag (shr_z z (2 ^ 64)) < 2 ^ 63
+high_fits (pos n) h = (div-lt_iff_lt-mul (lit< tt)).1 h
+high_fits (negsuc n) h = (div-lt_iff_lt-mul (lit< tt)).1 h
+
+-- the low half is the remainder that is not below 0
+pub low_rest : (z : ℤ) → nat_abs (int_rem_euclid z (pos (2 ^ 64))) ≡ low_half z
+low_rest (pos n) = refl
+low_rest (negsuc n) = refl
+
 -- ---- the smallest decimal, where the magnitude has told which
 
-pub smallest_16 : (scale : ℕ) (t : Bool) (n : ℕ) → 10 ^ 18 - 1 < n → Decimal16 (in_halves scale (signed t n)) ≡ smallest scale (signed t n)
+pub smallest_16 : (scale : ℕ) (z : ℤ) → 10 ^ 18 - 1 < nat_abs z → Decimal16 (in_halves scale z) ≡ smallest scale z
 unfolding smallest
-smallest_16 scale t n h = rw (abs_signed t n, lt-leb n (10 ^ 9 - 1) (omega arith), lt-leb n (10 ^ 18 - 1) h)
+smallest_16 scale z h = rw (lt-leb (nat_abs z) (10 ^ 9 - 1) (omega arith), lt-leb (nat_abs z) (10 ^ 18 - 1) h)
 
-pub smallest_8 : (scale : ℕ) (t : Bool) (n : ℕ) → 10 ^ 9 - 1 < n → n ≤ 10 ^ 18 - 1
-    → Decimal8 (record { integer = signed t n; scale = scale }) ≡ smallest scale (signed t n)
+pub smallest_8 : (scale : ℕ) (z : ℤ) → 10 ^ 9 - 1 < nat_abs z → nat_abs z ≤ 10 ^ 18 - 1 → Decimal8 (record { integer = z; scale = scale }) ≡ smallest scale z
 unfolding smallest
-smallest_8 scale t n h k = rw (abs_signed t n, lt-leb n (10 ^ 9 - 1) h, le-leb n (10 ^ 18 - 1) k)
+smallest_8 scale z h k = rw (lt-leb (nat_abs z) (10 ^ 9 - 1) h, le-leb (nat_abs z) (10 ^ 18 - 1) k)
 
-pub smallest_4 : (scale : ℕ) (t : Bool) (n : ℕ) → n ≤ 10 ^ 9 - 1
-    → Decimal4 (record { integer = signed t n; scale = scale }) ≡ smallest scale (signed t n)
+pub smallest_4 : (scale : ℕ) (z : ℤ) → nat_abs z ≤ 10 ^ 9 - 1 → Decimal4 (record { integer = z; scale = scale }) ≡ smallest scale z
 unfolding smallest
-smallest_4 scale t n h = rw (abs_signed t n, le-leb n (10 ^ 9 - 1) h)
+smallest_4 scale z h = rw (le-leb (nat_abs z) (10 ^ 9 - 1) h)

@@ -4,18 +4,21 @@ use mathlib.Core.Bool.{Bool, true, false, not, ◌||◌}
 use mathlib.Core.List.{List, [], ◌∷◌, ◌++◌, append_assoc}
 use Prim.Native.Nat.{ℕ, zero, suc, ◌+◌, ◌-◌, ◌*◌, ◌/◌, ◌%◌, ◌^◌, ◌≤◌, ◌<◌}
 use native.Mathlib.Omega.{arith}
-use native.Mathlib.Nat.{pow-suc, zero-add, add-zero, le_trans, lt_of_le_of_lt}
+use native.Mathlib.Nat.{pow-suc, zero-add, le_trans, lt_of_le_of_lt, one-le-pow}
 use native.Mathlib.Numerals.{add-one}
 use lib.Dec.{ltb, lit<}
-use lib.IntN.{ℤ, pos, negsuc, nat_abs}
-use lib.Signed.{mag, non_neg}
-use lib.ListN.{length, set, length-append, length-set}
-use lib.Seq.{drop-cons, drop-set-lt, get_or-set_same}
+use lib.IntN.{ℤ, nat_abs}
+use lib.Signed.{mag}
+use mir.Syntax.{w64, w128}
+use mir.Val.{SFits, of_z, to_z}
+use mir.ValLaws.{to_z-of_z}
+use lib.ListN.{length, drop, set, length-append, length-set}
+use lib.Seq.{drop-cons, drop-length, drop-set-lt, get_or-set_same}
 use borrow.Author.Tests.{ltb-false}
 use Rattle.encoding.specs.Rows.{first}
 use Rattle.encoding.specs.Signed.{whole}
 use Rattle.encoding.specs.Slices.{fits, write}
-use Rattle.encoding.proofs.SignedLaws.{by_sign, by_no_sign, whole_natural, whole_negative}
+use Rattle.std.proofs.lemmas.List.{append-nil}
 use Rattle.encoding.proofs.SliceLaws.{fits_within, write_none}
 use Rattle.packed_decimal.specs.PackedDecimal.{byte_of, pairs, digit_pairs, packed_bytes, sign_of}
 use Rattle.packed_decimal.specs.Calls.{WritesPacked, too_large}
@@ -78,28 +81,35 @@ no_pairs n h = go (digit_pairs n) h
 
 -- ---- counted
 
--- the pairs of n are still to be counted
-pub record Counts (total n count : ℕ) : Type 0 where
-  pub same : count + length (digit_pairs n) ≡ total
-  pub few : total ≤ 19
-
-pub counts_none : (n : ℕ) → n ≤ 10 ^ 38 - 1 → Counts (length (digit_pairs n)) n 0
-counts_none n h = record { same = zero-add _; few = pairs_few 19 n n (lt_of_le_of_lt h (lit< tt)) }
-
 one_more_lem : {n u e d : ℕ} → Splits n u e d → 0 < n → length (digit_pairs n) ≡ length (digit_pairs u) + 1
 one_more_lem {u = u} {e = e} {d = d} s z = ap length (last_pair s z) ∙ length-append (digit_pairs u) (byte_of e d ∷ [])
 
-pub counts_again : {total n count u e d : ℕ} → Counts total n count → Splits n u e d → 0 < n → Counts total u (count + 1)
-counts_again c s z = record { same = (let a = one_more_lem s z in let m = c.same in omega arith); few = c.few }
+-- a number of at least 100 ^ k has more than k
+pub pairs_many : (k n : ℕ) → 100 ^ k ≤ n → k < length (digit_pairs n)
+pairs_many zero n h = let p = one_more_lem (splits n) (omega arith) in omega arith
+pairs_many (suc k) n h =
+    let q = pow-suc 100 k in
+    let o : 1 ≤ 100 ^ k = one-le-pow k 100 (omega arith) in
+    let i = pairs_many k (n / 100) (omega arith) in
+    let p = one_more_lem (splits n) (omega arith) in
+    omega arith
 
-pub counts_all : {total n count : ℕ} → Counts total n count → n ≡ 0 → count ≡ total
+pub pairs_told : (k n : ℕ) → 100 ^ k ≤ n → n < 100 * 100 ^ k → k + 1 ≡ length (digit_pairs n)
+pairs_told k n h g =
+    let q = pow-suc 100 k in
+    let i = pairs_few (suc k) n n (omega arith) in
+    let j = pairs_many k n h in
+    omega arith
+
+pub pairs_zero : (n : ℕ) → (0 < n → ⊥) → 0 ≡ length (digit_pairs n)
 unfolding pairs
-counts_all {count = count} c z = rw (z, add-zero) at c.same
+pairs_zero zero h = refl
+pairs_zero (suc n) h = absurd (h (omega arith))
 
 -- ---- written, from the last to the first
 
 -- bytes written before a byte that stands already
-pub write_before : (l p : List ℕ) (n b : ℕ) → n ≡ length p → n < length l → write 0 p (set l n b) ≡ write 0 (p ++ (b ∷ [])) l
+write_before : (l p : List ℕ) (n b : ℕ) → n ≡ length p → n < length l → write 0 p (set l n b) ≡ write 0 (p ++ (b ∷ [])) l
 unfolding write
 write_before l p n b e h =
     let a : n < length (set l n b) = simp length-set h in
@@ -132,22 +142,14 @@ fills_again {l = l} {n = n} {i = i} {u = u} {e = e} {d = d} f s h =
 pub fills_all : {target : List ℕ} {long : ℕ} {l : List ℕ} {n i : ℕ} → Fills target long l n i → i ≤ 0 → l ≡ target
 fills_all {l = l} {n = n} f h = write_none l 0 ∙ (rw (no_pairs n (let g = f.left in omega arith)) at f.same)
 
--- ---- the number without its sign, of the halves
+pub write_whole : (l bs : List ℕ) → length l ≡ length bs → write 0 bs l ≡ bs
+unfolding write
+write_whole l bs e = rw (zero-add (length bs), ← e, drop-length, append-nil)
 
-pub minus_even : (h : ℤ) {t : Bool} → t ≡ not (non_neg h) → t ≡ true → (mag h + 1) * 2 ^ 64 + 0 ≡ nat_abs (whole h 0)
-minus_even h p e = by_sign (λ z. (mag z + 1) * 2 ^ 64 + 0 ≡ nat_abs (whole z 0)) h p e (λ n. rw (whole_negative n 0 (omega arith)) (omega arith))
-
-pub minus_odd : (h : ℤ) (l : ℕ) {t : Bool} → t ≡ not (non_neg h) → t ≡ true → (l ≡ 0 → ⊥) → l < 2 ^ 64
-    → mag h * 2 ^ 64 + (2 ^ 64 - 1 - (l - 1)) ≡ nat_abs (whole h l)
-minus_odd h l p e z b =
-    by_sign (λ x. mag x * 2 ^ 64 + (2 ^ 64 - 1 - (l - 1)) ≡ nat_abs (whole x l)) h p e (λ n. rw (whole_negative n l b) (omega arith))
-
-pub plus_natural : (h : ℤ) (l : ℕ) {t : Bool} → t ≡ not (non_neg h) → t ≡ false → mag h * 2 ^ 64 + l ≡ nat_abs (whole h l)
-plus_natural h l p e = by_no_sign (λ z. mag z * 2 ^ 64 + l ≡ nat_abs (whole z l)) h p e (λ n. rw (whole_natural n l))
-
-pub whole_sign : (h : ℤ) (l : ℕ) → l < 2 ^ 64 → sign_of h ≡ sign_of (whole h l)
-whole_sign (pos n) l b = rw (whole_natural n l)
-whole_sign (negsuc n) l b = rw (whole_negative n l b)
+-- pairs, before a byte that stands already
+pub pairs_put : (l ps : List ℕ) (n b : ℕ) {m : List ℕ} → m ≡ ps → n ≡ length ps → n < length l → m ++ drop n (set l n b) ≡ write 0 (ps ++ (b ∷ [])) l
+unfolding write
+pairs_put l ps n b e q h = rw e (rw (zero-add (length ps), ← q) at (write_before l ps n b q h))
 
 -- ---- the answers
 
@@ -155,6 +157,14 @@ whole_sign (negsuc n) l b = rw (whole_negative n l b)
 pub record Weighed (z : ℤ) (scale n : ℕ) (t : Bool) : Type 0 where
   pub is : n ≡ nat_abs z
   pub test : t ≡ (ltb 38 scale || ltb (10 ^ 38 - 1) n)
+
+pub weigh : {h y : ℤ} (l : ℕ) {scale n : ℕ} {t : Bool} → SFits w64 h → y ≡ whole (to_z w64 (of_z w64 h)) l → mag y < 2 ^ 127
+    → n ≡ nat_abs (to_z w128 (of_z w128 y)) → t ≡ too_large scale (to_z w128 (of_z w128 y)) → Weighed (whole h l) scale n t
+weigh {h} {y} l {scale} f e m p q =
+    record {
+      is = rw (to_z-of_z w128 y (record { sfits = m }), e, to_z-of_z w64 h f) at p;
+      test = q ∙ ap (λ k. ltb 38 scale || ltb (10 ^ 38 - 1) k) (sym p);
+    }
 
 -- a number that is not too large: its last digit, and what is left without it
 pub record Formed (z : ℤ) (scale rest digit : ℕ) : Type 0 where

@@ -1,5 +1,10 @@
--- For the code: the number that digits make, which stops growing at the largest of 128 bits.
-use Rattle.std.specs.Prelude.{ℕ, ◌+◌, ◌-◌, ◌*◌, ◌/◌, ◌%◌, ◌^◌, min}
+-- For the code: bytes of which the last stands apart, and the number that digits make, which stops growing at the largest of 128 bits.
+use Rattle.std.specs.Prelude.{List, [], ◌∷◌, ◌++◌, ℕ, ◌+◌, ◌-◌, ◌*◌, ◌/◌, ◌%◌, ◌^◌, min}
+use Rattle.packed_decimal.specs.declared.read.Form.{Form}
+
+-- all of its bytes
+abbrev pub bytes_of : Form → List ℕ
+bytes_of f = f.pairs.now ++ (f.last ∷ [])
 
 -- above every decimal
 abbrev pub limit : ℕ

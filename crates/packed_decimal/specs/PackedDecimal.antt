@@ -1,5 +1,6 @@
 -- Packed decimal, in the order of document 02's A4.
-use Rattle.std.specs.Prelude.{Bool, cond, not, false, ◌||◌, List, [], ◌∷◌, ◌++◌, ℕ, zero, suc, ◌+◌, ◌-◌, ◌*◌, ◌/◌, ◌%◌, ◌^◌, eqb, leb, ltb, get_or, length, ℤ, pos, negsuc, nat_abs, neg_ℤ}
+use Rattle.std.specs.Prelude.{Bool, cond, not, false, ◌||◌, List, [], ◌∷◌, ◌++◌, ℕ, zero, suc}
+use Rattle.std.specs.Prelude.{◌+◌, ◌-◌, ◌*◌, ◌/◌, ◌%◌, ◌^◌, eqb, leb, ltb, get_or, length, ℤ, pos, negsuc, nat_abs, neg_ℤ}
 use Rattle.std.specs.Int.Signed.{non_neg, shr_z}
 use Rattle.value.specs.declared.decimal.VariantDecimal16.{VariantDecimal16}
 use Rattle.value.specs.declared.variant.Variant.{Variant}

@@ -1,14 +1,11 @@
 // The scalar that is stored for packed decimal.
-ghost use Rattle.std.specs.Prelude.{◌≡◌, ◌||◌, ◌+◌, ◌-◌, ◌*◌, ◌/◌, ◌%◌, ◌^◌, ◌≤◌, ◌<◌, min, ltb, length};
+ghost use Rattle.std.specs.Prelude.{◌≡◌, ◌||◌, ◌+◌, ◌-◌, ◌*◌, ◌/◌, ◌%◌, ◌^◌, ◌≤◌, min, ltb};
 ghost use Rattle.std.specs.List.{fold, list_any};
-ghost use Rattle.packed_decimal.specs.PackedDecimal.{digits, digit_above9, magnitude, not_packed, sign};
-ghost use Rattle.packed_decimal.specs.PackedDecimal.{in_halves, smallest};
-ghost use Rattle.packed_decimal.specs.PackedDecimal.{signed as signed_of};
+ghost use Rattle.packed_decimal.specs.PackedDecimal.{digits, digit_above9, is_minus, is_plus, magnitude, not_packed, sign, signed, smallest};
 ghost use Rattle.packed_decimal.specs.Calls.{ReadsPacked};
-ghost use Rattle.packed_decimal.specs.Capped.{limit, with_pair};
+ghost use Rattle.packed_decimal.specs.Capped.{bytes_of, limit, with_pair};
 
-use crate::too_large;
-use value::decimal::{VariantDecimal4, VariantDecimal8, VariantDecimal16};
+use value::decimal::{MOST_16, VariantDecimal4, VariantDecimal8, VariantDecimal16};
 use value::variant::Variant;
 
 // Why no scalar is stored: 18 or 7.
@@ -18,84 +15,88 @@ pub enum PackedError {
     OutOfRange,
 }
 
+// One byte or more: the pairs of digits, and the last byte, which has the last digit and the sign.
+#[derive(Clone, Copy)]
+struct Form<'a> {
+    pairs: &'a [u8],
+    last: u8,
+}
+
 // The smallest decimal that holds the number.
 pub fn variant_of(bytes: &[u8], scale: u8) -> Result<Variant, PackedError>
     ensures { ReadsPacked bytes.now scale result }
 {
-    if is_not_packed(bytes) {
+    let (last, pairs) = bytes.split_last().ok_or(PackedError::NotPacked)?;
+    let form = Form { pairs, last: *last };
+    if form.is_not_packed() {
         return Err(PackedError::NotPacked);
     }
-    let n = digits_magnitude(bytes);
+    let n = form.magnitude();
     if too_large(n, scale) {
         return Err(PackedError::OutOfRange);
     }
-    let minus = sign_of(bytes) == 0xD;
-    Ok(smallest(minus, n, scale))
+    Ok(smallest(form.signed(n), scale))
 }
 
-// Number 18's condition.
-fn is_not_packed(bytes: &[u8]) -> bool
-    ensures { result ≡ not_packed bytes.now }
-{
-    if bytes.len() == 0 {
-        return true;
+impl Form<'_> {
+    // Number 18's condition.
+    fn is_not_packed(self) -> bool
+        ensures { result ≡ not_packed (bytes_of self.entry) }
+    {
+        20 <= self.pairs.len() || (self.has_digit_above_9() || !self.has_sign())
     }
-    if 20 < bytes.len() {
-        return true;
+
+    fn has_sign(self) -> bool
+        ensures { result ≡ (is_plus (sign (bytes_of self.entry)) || is_minus (sign (bytes_of self.entry))) }
+    {
+        matches!(self.sign(), 0xC | 0xD | 0xF)
     }
-    let s = sign_of(bytes);
-    has_digit_above_9(bytes) | !((s == 0xC) | (s == 0xF) | (s == 0xD))
-}
 
-fn high_half(b: u8) -> u8
-    ensures { result ≡ b / 16 }
-{
-    b >> 4
-}
+    #[tactic(auto, using(crate::proofs::ReadLaws::last_sign))]
+    fn sign(self) -> u8
+        ensures { result ≡ sign (bytes_of self.entry) }
+    {
+        self.last % 16
+    }
 
-fn low_half(b: u8) -> u8
-    ensures { result ≡ b % 16 }
-{
-    b & 0xf
-}
+    fn has_digit_above_9(self) -> bool
+        ensures { result ≡ digit_above9 (digits (bytes_of self.entry)) }
+    {
+        pairs_above_9(self.pairs) || 9 < self.last / 16
+    }
 
-fn sign_of(bytes: &[u8]) -> u8
-    requires { 0 < length bytes.now }
-    ensures { result ≡ sign bytes.now }
-{
-    low_half(bytes[bytes.len() - 1])
-}
+    // The number that the digits make, or the limit where they make more.
+    fn magnitude(self) -> u128
+        ensures { result ≡ min (magnitude (bytes_of self.entry)) limit }
+    {
+        with_digit(pairs_magnitude(self.pairs), self.last / 16)
+    }
 
-fn has_digit_above_9(bytes: &[u8]) -> bool
-    requires { 0 < length bytes.now }
-    ensures { result ≡ digit_above9 (digits bytes.now) }
-{
-    let last = bytes.len() - 1;
-    pairs_above_9(&bytes[..last]) | (9 < high_half(bytes[last]))
+    // The number n with the sign of the bytes.
+    fn signed(self, n: u128) -> i128
+        requires { n ≤ 10 ^ 38 - 1 }
+        ensures { result ≡ signed (is_minus (sign (bytes_of self.entry))) n }
+    {
+        if self.sign() == 0xD {
+            -(n as i128)
+        } else {
+            n as i128
+        }
+    }
 }
 
 fn pairs_above_9(pairs: &[u8]) -> bool
     ensures { result ≡ list_any (λ b. ltb 9 (b / 16) || ltb 9 (b % 16)) pairs.now }
 {
-    pairs.iter().any(|b| 9 < high_half(*b) || 9 < low_half(*b))
-}
-
-// The number that the digits make, or the limit where they make more.
-fn digits_magnitude(bytes: &[u8]) -> u128
-    requires { 0 < length bytes.now }
-    ensures { result ≡ min (magnitude bytes.now) limit }
-{
-    let last = bytes.len() - 1;
-    with_digit(pairs_magnitude(&bytes[..last]), high_half(bytes[last]))
+    pairs.iter().any(|b| 9 < *b / 16 || 9 < *b % 16)
 }
 
 fn pairs_magnitude(pairs: &[u8]) -> u128
     ensures { result ≡ fold with_pair 0 pairs.now }
 {
-    pairs.iter().fold(
-        0,
-        |n, b| with_digit(with_digit(n, high_half(*b)), low_half(*b)),
-    )
+    pairs
+        .iter()
+        .fold(0, |n, b| with_digit(with_digit(n, *b / 16), *b % 16))
 }
 
 fn with_digit(n: u128, digit: u8) -> u128
@@ -104,48 +105,32 @@ fn with_digit(n: u128, digit: u8) -> u128
     n.saturating_mul(10).saturating_add(u128::from(digit))
 }
 
-fn smallest(negative: bool, n: u128, scale: u8) -> Variant
-    requires { n ≤ 10 ^ 38 - 1 }
-    ensures { result ≡ smallest scale (signed_of negative n) }
+// Number 7's condition.
+fn too_large(n: u128, scale: u8) -> bool
+    ensures { result ≡ (ltb 38 scale || ltb (10 ^ 38 - 1) n) }
 {
+    38 < scale || MOST_16 < n
+}
+
+fn smallest(integer: i128, scale: u8) -> Variant
+    ensures { result ≡ smallest scale integer }
+{
+    let n = integer.unsigned_abs();
     if 999_999_999_999_999_999 < n {
-        return Variant::Decimal16(decimal16(negative, n, scale));
+        return Variant::Decimal16(VariantDecimal16 {
+            high: (integer >> 64) as i64,
+            low: integer.rem_euclid(0x1_0000_0000_0000_0000) as u64,
+            scale,
+        });
     }
-    let integer = signed(negative, n as u64);
     if 999_999_999 < n {
-        return Variant::Decimal8(VariantDecimal8 { integer, scale });
+        return Variant::Decimal8(VariantDecimal8 {
+            integer: integer as i64,
+            scale,
+        });
     }
     Variant::Decimal4(VariantDecimal4 {
         integer: integer as i32,
         scale,
     })
-}
-
-fn signed(negative: bool, n: u64) -> i64
-    requires { n < 2 ^ 63 }
-    ensures { result ≡ signed_of negative n }
-{
-    if negative { -(n as i64) } else { n as i64 }
-}
-
-// -(high * 2^64 + low) is -(high + 1) * 2^64 + (2^64 - low) where low is not 0.
-fn decimal16(negative: bool, n: u128, scale: u8) -> VariantDecimal16
-    requires { n ≤ 10 ^ 38 - 1 }
-    ensures { result ≡ in_halves scale (signed_of negative n) }
-{
-    let high = (n / 0x1_0000_0000_0000_0000) as u64;
-    let low = (n % 0x1_0000_0000_0000_0000) as u64;
-    if negative && 0 < low {
-        VariantDecimal16 {
-            high: signed(true, high + 1),
-            low: 0xffff_ffff_ffff_ffff - (low - 1),
-            scale,
-        }
-    } else {
-        VariantDecimal16 {
-            high: signed(negative, high),
-            low,
-            scale,
-        }
-    }
 }

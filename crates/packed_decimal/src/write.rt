@@ -1,13 +1,11 @@
 // The way back: the shortest packed decimal of a number.
-ghost use Rattle.std.specs.Prelude.{◌≡◌, [], ◌∷◌, ◌++◌, ◌+◌, ◌-◌, ◌*◌, ◌^◌, ◌≤◌, ◌<◌, length, nat_abs};
+ghost use Rattle.std.specs.Prelude.{◌≡◌, ◌<◌, length};
 ghost use Rattle.encoding.specs.Signed.{whole};
-ghost use Rattle.encoding.specs.Slices.{write};
 ghost use Rattle.packed_decimal.specs.PackedDecimal.{byte_of, digit_pairs, sign_of};
 ghost use Rattle.packed_decimal.specs.Calls.{WritesPacked};
 
-use crate::too_large;
-use encoding::signed::{is_negative, mag};
 use encoding::slices::fits;
+use value::decimal::{MOST_16, VariantDecimal16, is_beyond};
 
 // Why nothing is written: 7 or 14.
 #[derive(Clone, Copy, PartialEq, Eq, Debug)]
@@ -17,6 +15,7 @@ pub enum WriteError {
 }
 
 // The shortest form of high * 2^64 + low at the front of `out`, and its length. The scale is asked and not written.
+// Kept (5b; C interface): the number comes as two halves from the call, and becomes an i128 in the first line.
 pub fn write_packed_decimal(
     high: i64,
     low: u64,
@@ -25,8 +24,9 @@ pub fn write_packed_decimal(
 ) -> Result<usize, WriteError>
     ensures { WritesPacked (whole high low) scale out.old result out.new }
 {
-    let n = whole_magnitude(high, low);
-    if too_large(n, scale) {
+    let integer = VariantDecimal16 { high, low, scale }.integer();
+    let n = integer.unsigned_abs();
+    if is_beyond(MOST_16, scale, integer) {
         return Err(WriteError::OutOfRange);
     }
     let count = pair_count(n / 10);
@@ -34,62 +34,40 @@ pub fn write_packed_decimal(
     if !fits(0, size, out.len()) {
         return Err(WriteError::NoRoom);
     }
-    write_form(out, n / 10, count, last_byte((n % 10) as u8, high));
+    out[count] = last_byte((n % 10) as u8, integer);
+    write_pairs(&mut out[..count], n / 10);
     Ok(size)
 }
 
 // The last digit beside the sign.
-fn last_byte(digit: u8, high: i64) -> u8
+fn last_byte(digit: u8, integer: i128) -> u8
     requires { digit < 10 }
-    ensures { result ≡ byte_of digit (sign_of high) }
+    ensures { result ≡ byte_of digit (sign_of integer) }
 {
-    if high < 0 {
+    if integer < 0 {
         digit * 16 + 0xD
     } else {
         digit * 16 + 0xC
     }
 }
 
-fn whole_magnitude(high: i64, low: u64) -> u128
-    ensures { result ≡ nat_abs (whole high low) }
-{
-    let half = mag(high) as u64;
-    if !is_negative(high) {
-        joined(half, low)
-    } else if low == 0 {
-        joined(half + 1, 0)
-    } else {
-        joined(half, 0xffff_ffff_ffff_ffff - (low - 1))
-    }
-}
-
-fn joined(high: u64, low: u64) -> u128
-    ensures { result ≡ high * 2 ^ 64 + low }
-{
-    u128::from(high) * 0x1_0000_0000_0000_0000 + u128::from(low)
-}
-
 fn pair_count(n: u128) -> usize
-    requires { n ≤ 10 ^ 38 - 1 }
     ensures { result ≡ length (digit_pairs n) }
 {
-    let mut rest = n;
-    let mut count = 0;
-    while rest != 0 {
-        rest /= 100;
-        count += 1;
+    match n.checked_ilog(100) {
+        Some(k) => k as usize + 1,
+        None => 0,
     }
-    count
 }
 
 // The pairs before the last byte, from the last to the first.
-fn write_form(out: &mut [u8], n: u128, count: usize, last: u8)
-    requires { (count ≡ length (digit_pairs n)) × (count < length out.old) }
-    ensures { out.new ≡ write 0 (digit_pairs n ++ (last ∷ [])) out.old }
+// Kept (3; proof): by `out.iter_mut().rev()` the invariant over what that iterator has lent and not yet given back stayed open.
+fn write_pairs(out: &mut [u8], n: u128)
+    requires { length out.old ≡ length (digit_pairs n) }
+    ensures { out.new ≡ digit_pairs n }
 {
-    out[count] = last;
     let mut rest = n;
-    for i in (0..count).rev() {
+    for i in (0..out.len()).rev() {
         out[i] = (rest / 10 % 10) as u8 * 16 + (rest % 10) as u8;
         rest /= 100;
     }

@@ -43,13 +43,13 @@ module _ (p : ℕ) (v : List ℕ) {o : Option Child} (e : o ≡ child_over v p) 
         go zero = refl
         go (suc d) = rw (← e, q)
 
-    pub child_steps : {c : Child} → o ≡ Some c → {w : List ℕ} → w ≡ value_from c.start v → (depth ≡ 0 → ⊥)
-        → Splits (steps_words (path_in depth names p v)) (step_words (step_of names c.step)) (steps_words (path_in (depth - 1) names (p - c.start) w))
+    pub child_steps : {c : Child} → o ≡ Some c → {w : List ℕ} {n : ℕ} → w ≡ value_from c.start v → n ≡ p - c.start → (depth ≡ 0 → ⊥)
+        → Splits (steps_words (path_in depth names p v)) (step_words (step_of names c.step)) (steps_words (path_in (depth - 1) names n w))
     unfolding path_in
-    child_steps {c} q {w} r h = record { joined = go depth h }
+    child_steps {c} q {w} {n} r m h = record { joined = go depth h }
       where
-        go : (d : ℕ) → (d ≡ 0 → ⊥) → steps_words (path_in d names p v) ≡ step_words (step_of names c.step) ++ steps_words (path_in (d - 1) names (p - c.start) w)
+        go : (d : ℕ) → (d ≡ 0 → ⊥) → steps_words (path_in d names p v) ≡ step_words (step_of names c.step) ++ steps_words (path_in (d - 1) names n w)
         go zero h = absurd (h refl)
         go (suc d) h =
             let z : suc d - 1 ≡ d = omega arith in
-            rw (z, r, ← e, q) (steps_step (step_of names c.step) (path_in d names (p - c.start) (value_from c.start v)))
+            rw (z, r, m, ← e, q) (steps_step (step_of names c.step) (path_in d names (p - c.start) (value_from c.start v)))

@@ -5,25 +5,26 @@ ghost use Rattle.live.specs.Words.{decimal, steps_words};
 ghost use Rattle.path_words.specs.Descent.{path_in, step_of};
 ghost use Rattle.path_words.specs.Writing.{step_words};
 
-use crate::descent::child_over;
+use crate::descent::Spot;
 use crate::{Child, Step};
-use header_reader::value_from;
 use lexicon::name_at;
 
 // The words of all steps behind `record`, of the path through at most `depth` containers.
-pub(crate) fn steps_size(d: &[u8], v: &[u8], p: usize, depth: usize) -> usize
+pub(crate) fn steps_size(d: &[u8], spot: Spot<'_>, depth: usize) -> usize
     requires { depth ≤ 64 }
-    ensures { (result ≡ length (steps_words (path_in depth (dictionary_names d.now) p v.now))) × (result ≤ depth * 8589934592) }
+    ensures { (result ≡ length (steps_words (path_in depth (dictionary_names d.now) spot.entry.place spot.entry.value.now)))
+        × (result ≤ depth * 8589934592) }
 {
     if depth == 0 {
         return 0;
     }
-    let Some(Child { step, start }) = child_over(v, p) else {
+    let Some(Child { step, start }) = spot.child() else {
         return 0;
     };
-    step_size(d, step) + steps_size(d, value_from(v, start), p - start, depth - 1)
+    step_size(d, step) + steps_size(d, spot.inside(start), depth - 1)
 }
 
+// Kept (7; no plainer): a match over an enum's variants.
 fn step_size(d: &[u8], step: Step) -> usize
     ensures { (result ≡ length (step_words (step_of (dictionary_names d.now) step))) × (result ≤ 8589934592) }
 {

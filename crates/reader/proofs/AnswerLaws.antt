@@ -4,8 +4,9 @@ use mathlib.Core.Bool.{Bool, true, false, cond, not}
 use mathlib.Core.List.{List, [], ◌∷◌}
 use Prim.Native.Nat.{ℕ, ◌+◌, ◌-◌, ◌%◌}
 use native.Mathlib.Omega.{arith}
+use lib.Dec.{eqb}
 use lib.ListN.{length, drop, get_or}
-use borrow.Author.Tests.{le-leb}
+use borrow.Author.Tests.{le-leb, eqb-true, eqb-false}
 use Rattle.encoding.specs.Rows.{first}
 use Rattle.metadata.specs.Names.{Name, same}
 use Rattle.metadata.specs.Bytes.{joined, dictionary_names}
@@ -25,7 +26,7 @@ use Rattle.reader.specs.declared.errors.ReadError.{ReadError}
 use Rattle.reader.specs.declared.errors.ReadError.TheVariants.{BadDictionary, BadValue}
 use Rattle.scalar_reader.specs.Integers.{integer_in}
 use Rattle.scalar_reader.proofs.IntegerLaws.{integer_scalar, integer_other}
-use Rattle.reader.specs.Answers.{FindsField, FindsInteger, field_among, field_in, error_number, integer_shape, integer_among, integer_first, part, part_of, part_at, field_by, field_found, integer_by, integer_found}
+use Rattle.reader.specs.Answers.{FindsField, FindsInteger, field_among, field_in, error_number, integer_shape, integer_among, integer_first, part, part_of, part_at, field_by, field_found, field_of, integer_field_of, integer_by, integer_found}
 
 -- ---- a number, by its bytes
 
@@ -134,7 +135,7 @@ module _ (d v name : List ℕ) where
   field_refused {e} q = record { number = q; found = λ t h z. absurd (told e z) }
 
   module _ (e : 0 ≡ first (pair_rows d v)) where
-    pub field_missing : (get_or v 0 0 % 4 ≡ 2 → ⊥) → FindsField d v name (Ok None)
+    field_missing : (get_or v 0 0 % 4 ≡ 2 → ⊥) → FindsField d v name (Ok None)
     unfolding field_in
     field_missing k = record { number = e; found = λ t h y. ap Ok (go t h.laid) }
       where
@@ -143,7 +144,7 @@ module _ (d v name : List ℕ) where
         go (list w big ts) l = refl
         go (object w u big es ts) l = absurd (k (rw l (object_first w u big es ts)))
 
-    pub field_named : get_or v 0 0 % 4 ≡ 2 → {r : Option Part} → r ≡ field_found (dictionary_names d) name v → FindsField d v name (Ok r)
+    field_named : get_or v 0 0 % 4 ≡ 2 → {r : Option Part} → r ≡ field_found (dictionary_names d) name v → FindsField d v name (Ok r)
     unfolding field_in
     field_named k {r} q = record { number = e; found = λ t h y. ap Ok (q ∙ go t h.laid h.fits) }
       where
@@ -155,6 +156,14 @@ module _ (d v name : List ℕ) where
             let x : object_from v ≡ length (layout (object w u big es ts)) - length (joined (layouts ts)) = omega (arith, o.size, ap length l) in
             rw (o.ids, o.offsets, ← x) (fields_found (dictionary_names d) 64 w u big es ts f v l name es f.2.offsets)
 
+    -- as the code finds it
+    pub field_told_lem : {r : Option Part} → r ≡ field_of (dictionary_names d) name v → FindsField d v name (Ok r)
+    field_told_lem {r} q = go (eqb (get_or v 0 0 % 4) 2) refl
+      where
+        go : (t : Bool) → eqb (get_or v 0 0 % 4) 2 ≡ t → FindsField d v name (Ok r)
+        go true x = field_named (eqb-true (get_or v 0 0 % 4) 2 x) (rw x at q)
+        go false x = let w : r ≡ None = rw x at q in rw w (field_missing (eqb-false (get_or v 0 0 % 4) 2 x))
+
 -- ---- the first integer
 
 module _ (d v : List ℕ) where
@@ -162,7 +171,7 @@ module _ (d v : List ℕ) where
   integer_refused {e} q = record { number = q; found = λ t h z. absurd (told e z) }
 
   module _ (e : 0 ≡ first (pair_rows d v)) where
-    pub integer_missing : (get_or v 0 0 % 4 ≡ 2 → ⊥) → FindsInteger d v (Ok None)
+    integer_missing : (get_or v 0 0 % 4 ≡ 2 → ⊥) → FindsInteger d v (Ok None)
     unfolding integer_first
     integer_missing k = record { number = e; found = λ t h y. ap Ok (go t h.laid) }
       where
@@ -171,7 +180,7 @@ module _ (d v : List ℕ) where
         go (list w big ts) l = refl
         go (object w u big es ts) l = absurd (k (rw l (object_first w u big es ts)))
 
-    pub integer_first_lem : get_or v 0 0 % 4 ≡ 2 → {r : Option IntegerField} → r ≡ integer_found v → FindsInteger d v (Ok r)
+    integer_first_lem : get_or v 0 0 % 4 ≡ 2 → {r : Option IntegerField} → r ≡ integer_found v → FindsInteger d v (Ok r)
     unfolding integer_first
     integer_first_lem k {r} q = record { number = e; found = λ t h y. ap Ok (q ∙ go t h.laid h.fits) }
       where
@@ -181,3 +190,11 @@ module _ (d v : List ℕ) where
         go (object w u big es ts) l f =
             let o = object_bytes_lem (dictionary_names d) 64 w u big es ts f v l in
             rw (o.ids, o.offsets) (integers_found (dictionary_names d) 64 w u big es ts f v l es f.2.offsets)
+
+    -- as the code finds it
+    pub integer_told_lem : {r : Option IntegerField} → r ≡ integer_field_of v → FindsInteger d v (Ok r)
+    integer_told_lem {r} q = go (eqb (get_or v 0 0 % 4) 2) refl
+      where
+        go : (t : Bool) → eqb (get_or v 0 0 % 4) 2 ≡ t → FindsInteger d v (Ok r)
+        go true x = integer_first_lem (eqb-true (get_or v 0 0 % 4) 2 x) (rw x at q)
+        go false x = let w : r ≡ None = rw x at q in rw w (integer_missing (eqb-false (get_or v 0 0 % 4) 2 x))

@@ -8,7 +8,7 @@ use lib.Dec.{eqb, leb, ltb}
 use lib.IntN.{ℤ}
 use lib.ListN.{length, take, drop, get_or, length-drop, drop_of_length-le}
 use lib.Seq.{drop-cons}
-use borrow.Author.Tests.{leb-true, leb-false, lt-leb, le-leb}
+use borrow.Author.Tests.{leb-true, leb-false, lt-leb, le-leb, eq-eqb, ne_eqb}
 use Rattle.metadata.specs.Names.{Name, same}
 use Rattle.container.specs.Sort.{name_at}
 use Rattle.measure.specs.Measure.{measured}
@@ -23,7 +23,7 @@ use Rattle.std.specs.Prelude.{Option, Some, None}
 use Rattle.reader.specs.declared.Part.{Part}
 use Rattle.reader.specs.declared.IntegerField.{IntegerField}
 use Rattle.scalar_reader.specs.Integers.{integer_in}
-use Rattle.reader.specs.Answers.{Inside, part, part_of, part_at, field_by, integer_by, or_next}
+use Rattle.reader.specs.Answers.{Inside, part, part_of, part_at, field_by, field_of, integer_by, integer_field_of, or_next}
 
 -- ---- the part at a place
 
@@ -46,11 +46,10 @@ end_room v at {n} h e =
     let m : n ≡ measured (drop at v) = e ∙ ap measured (rest_is v at) in
     omega (arith, measured_within (drop at v), length-drop at v)
 
-pub part_placed : (v : List ℕ) (k : ℕ) {a b n : ℕ} → a ≡ object_from v → b ≡ get_or (object_offsets v) k 0 → n ≡ measured (take (length v - (a + b)) (drop (a + b) v))
-    → part (a + b) (a + b + n) ≡ part_at v (get_or (object_offsets v) k 0)
-part_placed v k {a} {b} {n} x y e =
-    let m : n ≡ measured (drop (a + b) v) = e ∙ ap measured (rest_is v (a + b)) in
-    rw (m, x, y)
+pub part_placed : (v : List ℕ) {at start n : ℕ} → at ≡ start → n ≡ measured (take (length v - at) (drop at v)) → part at (at + n) ≡ part start (start + measured (drop start v))
+part_placed v {at} {start} {n} x e =
+    let m : n ≡ measured (drop at v) = e ∙ ap measured (rest_is v at) in
+    rw (m, x)
 
 -- ---- fields one behind the other
 
@@ -66,6 +65,18 @@ pub record Seeks (names : List Name) (name v : List ℕ) (r : Option Part) (k : 
 
 pub record Hunts (v : List ℕ) (r : Option IntegerField) (k : ℕ) : Type 0 where
   pub rest : integer_by v (drop k (stored_ids v)) (drop k (object_offsets v)) ≡ r
+
+pub seeks_start : (names : List Name) (name v : List ℕ) → get_or v 0 0 % 4 ≡ 2 → Seeks names name v (field_of names name v) 0
+seeks_start names name v e = record { rest = rw (eq-eqb (get_or v 0 0 % 4) 2 e) }
+
+pub hunts_start : (v : List ℕ) → get_or v 0 0 % 4 ≡ 2 → Hunts v (integer_field_of v) 0
+hunts_start v e = record { rest = rw (eq-eqb (get_or v 0 0 % 4) 2 e) }
+
+pub no_field : (names : List Name) (name v : List ℕ) → (get_or v 0 0 % 4 ≡ 2 → ⊥) → None ≡ field_of names name v
+no_field names name v h = rw (ne_eqb (get_or v 0 0 % 4) 2 h)
+
+pub no_integer : (v : List ℕ) → (get_or v 0 0 % 4 ≡ 2 → ⊥) → None ≡ integer_field_of v
+no_integer v h = rw (ne_eqb (get_or v 0 0 % 4) 2 h)
 
 split : (l : List ℕ) (k : ℕ) → k < length l → drop k l ≡ get_or l k 0 ∷ drop (k + 1) l
 split l k h = let e : suc k ≡ k + 1 = omega arith in rw (drop-cons l k 0 h, e)

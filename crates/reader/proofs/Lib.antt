@@ -3,3 +3,4 @@ pub mod ValueLaws
 pub mod PairLaws
 pub mod FieldLaws
 pub mod AnswerLaws
+pub mod NamedLaws

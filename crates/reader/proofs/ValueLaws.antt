@@ -11,80 +11,53 @@ use borrow.Author.Tests.{eq-eqb, ne_eqb, lt-ltb, le-ltb, ltb-true}
 use Rattle.std.specs.Prelude.{Some, None}
 use Rattle.metadata.specs.Names.{Name}
 use Rattle.measure.specs.Measure.{measured, some_length}
+use Rattle.measure.proofs.MeasureLaws.{measured_within}
 use Rattle.grammar.proofs.CutLaws.{each_fuel}
-use Rattle.header_reader.proofs.StartLaws.{rest_is, walked, walked_none, walked_within}
+use Rattle.grammar.proofs.LengthLaws.{length_is, length_none}
+use Rattle.header_reader.proofs.StartLaws.{rest_is}
 use Rattle.grammar.specs.Tests.{each_value, is_scalar, is_list_head, is_object_head, list_from, list_head, object_from, object_head, is_value}
 
 -- ---- the values that are left decide as all of them do
 
-pub record Walks (f : List ℕ → Bool) (t : Bool) (v : List ℕ) (at : ℕ) : Type 0 where
-  pub rest : each_value f (length v) (drop at v) ≡ t
-  pub low : at ≤ length v
+pub record Walks (f : List ℕ → Bool) (t : Bool) (rest : List ℕ) : Type 0 where
+  pub left : each_value f (length rest) rest ≡ t
 
-pub walks_start : (f : List ℕ → Bool) (v : List ℕ) → Walks f (each_value f (length v) v) v 0
-walks_start f v = record { rest = refl; low = omega arith }
-
-each_next : (f : List ℕ → Bool) (n : ℕ) (bytes : List ℕ) → 0 < length bytes → length bytes ≤ n
-    → each_value f n bytes ≡ (ltb 0 (measured bytes) && (f (take (measured bytes) bytes) && each_value f n (drop (measured bytes) bytes)))
+each_none : (f : List ℕ → Bool) (bytes : List ℕ) → measured bytes ≡ 0 → each_value f (length bytes) bytes ≡ eqb (length bytes) 0
 unfolding each_value
-each_next f zero bytes h k = absurd (omega arith)
-each_next f (suc n) bytes h k = rw (ne_eqb (length bytes) 0 (omega arith)) (go (ltb 0 (measured bytes)) refl)
-  where
-    rest : List ℕ
-    rest = drop (measured bytes) bytes
+each_none f [] e = refl
+each_none f (b ∷ v) e = rw (ne_eqb (length (b ∷ v)) 0 (omega arith), le-ltb 0 (measured (b ∷ v)) (omega arith))
 
-    go : (t : Bool) → ltb 0 (measured bytes) ≡ t → (t && (f (take (measured bytes) bytes) && each_value f n rest)) ≡ (t && (f (take (measured bytes) bytes) && each_value f (suc n) rest))
-    go false e = refl
-    go true e =
-        let p = ltb-true 0 (measured bytes) e in
-        let l = length-drop (measured bytes) bytes in
-        rw (each_fuel f n rest (omega arith), each_fuel f (suc n) rest (omega arith))
+each_next : (f : List ℕ → Bool) (bytes : List ℕ) → 0 < measured bytes
+    → each_value f (length bytes) bytes ≡ (f (take (measured bytes) bytes) && each_value f (length (drop (measured bytes) bytes)) (drop (measured bytes) bytes))
+unfolding each_value
+each_next f [] h = absurd (omega (arith, measured_within []))
+each_next f (b ∷ v) h =
+    let rest = drop (measured (b ∷ v)) (b ∷ v) in
+    rw (ne_eqb (length (b ∷ v)) 0 (omega arith), lt-ltb 0 (measured (b ∷ v)) h, each_fuel f (length v) rest (omega (arith, length-drop (measured (b ∷ v)) (b ∷ v))))
 
-module _ {f : List ℕ → Bool} {t : Bool} {v : List ℕ} {at : ℕ} (w : Walks f t v at) where
-  next : {n : ℕ} → n ≡ measured (drop at v) → at < length v → (ltb 0 n && (f (take n (drop at v)) && each_value f (length v) (drop (at + n) v))) ≡ t
-  next {n} m h =
-      let l = length-drop at v in
-      rw (← drop-drop n at v) (rw (each_next f (length v) (drop at v) (omega arith) (omega arith), ← m) at w.rest)
-
+module _ {f : List ℕ → Bool} {t : Bool} {rest : List ℕ} (w : Walks f t rest) where
   -- what is no whole value is still there
-  pub walks_cut : None ≡ some_length (measured (take (length v - at) (drop at v))) → at < length v → eqb at (length v) ≡ t
-  walks_cut e h = rw (ne_eqb at (length v) (omega arith)) (next {n = 0} (sym (walked_none v at e)) h)
+  pub walks_end : {r : Bool} → None ≡ some_length (measured rest) → r ≡ eqb (length rest) 0 → r ≡ t
+  walks_end e q = q ∙ (sym (each_none f rest (length_none (measured rest) e)) ∙ w.left)
 
-  module _ {n : ℕ} (e : Some n ≡ some_length (measured (take (length v - at) (drop at v)))) where
-    pub walks_room : at + n ≤ length v
-    walks_room = walked_within v at n w.low (walked v at e).0
+  module _ {n : ℕ} (e : Some n ≡ some_length (measured rest)) where
+    size : (n ≡ measured rest) × (0 < n)
+    size = length_is (measured rest) e
 
-    pub walks_more : 0 < n
-    walks_more = (walked v at e).1
+    pub walks_room : n ≤ length rest
+    walks_room = omega (arith, size, measured_within rest)
 
-    -- the next value, as the code cuts it
-    part_is : take (at + n - at) (drop at v) ≡ take n (drop at v)
-    part_is = let z : at + n - at ≡ n = omega arith in rw z
+    pub walks_less : length (drop n rest) < length rest
+    walks_less = omega (arith, size, measured_within rest, length-drop n rest)
 
-    module _ (h : at < length v) where
-      pub part_first : get_or (take (at + n - at) (drop at v)) 0 0 ≡ get_or v at 0
-      part_first = let z : at + n - at ≡ suc (n - 1) = omega (arith, walks_more) in rw (z, drop-cons v at 0 h)
+    judged : (f (take n rest) && each_value f (length (drop n rest)) (drop n rest)) ≡ t
+    judged = rw size.0 (sym (each_next f rest (omega (arith, size)))) ∙ w.left
 
-      judged : (f (take (at + n - at) (drop at v)) && each_value f (length v) (drop (at + n) v)) ≡ t
-      judged = rw (part_is) (rw (lt-ltb 0 n walks_more) at (next (walked v at e).0 h))
+    pub walks_bad : f (take n rest) ≡ false → false ≡ t
+    walks_bad b = rw b at judged
 
-      pub walks_bad : f (take (at + n - at) (drop at v)) ≡ false → false ≡ t
-      walks_bad b = rw b at judged
-
-      pub walks_again : f (take (at + n - at) (drop at v)) ≡ true → Walks f t v (at + n)
-      walks_again b = record { rest = rw b at judged; low = walks_room }
-
--- nothing is left
-pub walks_end : {f : List ℕ → Bool} {t : Bool} {v : List ℕ} {at : ℕ} → Walks f t v at → length v ≤ at → eqb at (length v) ≡ t
-unfolding each_value
-walks_end {f} {t} {v} {at} w h = eq-eqb at (length v) (let l = w.low in omega arith) ∙ go (length v) w.rest
-  where
-    none : eqb (length (drop at v)) 0 ≡ true
-    none = eq-eqb (length (drop at v)) 0 (omega (arith, length-drop at v))
-
-    go : (n : ℕ) → each_value f n (drop at v) ≡ t → true ≡ t
-    go zero e = rw none at e
-    go (suc n) e = rw none at e
+    pub walks_again : f (take n rest) ≡ true → Walks f t (drop n rest)
+    walks_again b = record { left = rw b at judged }
 
 -- ---- a value by its kind
 
@@ -161,12 +134,6 @@ module _ (names : List Name) (v : List ℕ) where
     pub object_headed : {r : ℕ} {s : Bool} → Some r ≡ object_head names v → s ≡ each_value (is_value names (depth - 1)) (length (take (length v - r) (drop r v))) (take (length v - r) (drop r v))
         → s ≡ is_value names depth v
     object_headed e b = headed (is_value names (depth - 1)) (is_object_head names v) (object_from v) e b ∙ sym (value_object depth h k)
-
--- of a container's data, as the code cuts it
-module _ {f : List ℕ → Bool} {t : Bool} {v : List ℕ} {at : ℕ} (w : Walks f t v at) {n : ℕ} (e : Some n ≡ some_length (measured (take (length v - at) (drop at v)))) (h : at < length v) where
-  pub part_scalar : (names : List Name) (depth : ℕ) {s : Bool} → (get_or v at 0 % 4 ≡ 3 → ⊥) → (get_or v at 0 % 4 ≡ 2 → ⊥) → s ≡ is_scalar (take (at + n - at) (drop at v))
-      → s ≡ is_value names depth (take (at + n - at) (drop at v))
-  part_scalar names depth a b p = p ∙ sym (value_scalar names _ depth (rw (part_first w e h) a) (rw (part_first w e h) b))
 
 -- no bytes are no value
 pub value_none : (names : List Name) (depth : ℕ) (v : List ℕ) → length v ≡ 0 → false ≡ is_value names depth v

@@ -1,5 +1,6 @@
 -- document 02, A6: what is found in a pair that is read, over its reading.
-use Rattle.std.specs.Prelude.{◌≡◌, cond, ◌&&◌, List, [], ◌∷◌, ℕ, ◌+◌, ◌-◌, ◌≤◌, ◌<◌, leb, ℤ, Option, Some, None, Result, Ok, Err, drop, get_or, length, take}
+use Rattle.std.specs.Prelude.{◌≡◌, cond, ◌&&◌, List, [], ◌∷◌, ℕ, ◌+◌, ◌-◌, ◌%◌, ◌≤◌, ◌<◌, eqb, leb, ℤ, Option, Some, None}
+use Rattle.std.specs.Prelude.{Result, Ok, Err, drop, get_or, length, take}
 use Rattle.encoding.specs.Rows.{first}
 use Rattle.metadata.specs.Names.{Name, same}
 use Rattle.metadata.specs.Bytes.{dictionary_names, joined}
@@ -9,6 +10,7 @@ use Rattle.measure.specs.Measure.{measured}
 use Rattle.grammar.specs.Grammar.{Shape, scalar, list, object, Shapes, layout, layouts, ReadsValue}
 use Rattle.grammar.specs.Tests.{object_count, object_from, object_offsets, pair_rows, stored_ids}
 use Rattle.grammar.specs.Fields.{shape_at}
+use Rattle.header_reader.specs.Heads.{Head}
 use Rattle.reader.specs.declared.Part.{Part}
 use Rattle.reader.specs.declared.IntegerField.{IntegerField}
 use Rattle.reader.specs.declared.errors.ReadError.{ReadError}
@@ -37,7 +39,8 @@ part start end = record { start = start; end = end }
 unfoldable pub field_among : List Name → Name → ℕ → Shapes → List Entry → Option Part
 field_among names name from ts [] = None
 field_among names name from ts (e ∷ es) =
-    cond (same (name_at names e.id) name) (Some (part (from + e.offset) (from + e.offset + length (layout (shape_at e.offset 0 ts))))) (field_among names name from ts es)
+    cond (same (name_at names e.id) name) (Some (part (from + e.offset) (from + e.offset + length (layout (shape_at e.offset 0 ts)))))
+    (field_among names name from ts es)
 
 -- "By name, a field's value is handed back as the part of the caller's bytes it occupies, or the answer says that there is no such field, as
 -- for a value that is no object"
@@ -111,3 +114,19 @@ integer_by v (i ∷ is) (n ∷ ns) = or_next (integer_in (part_of v (Some (part_
 
 abbrev pub integer_found : List ℕ → Option IntegerField
 integer_found v = integer_by v (stored_ids v) (object_offsets v)
+
+-- of a value that need be no object
+abbrev pub field_of : List Name → Name → List ℕ → Option Part
+field_of names name v = cond (eqb (get_or v 0 0 % 4) 2) (field_found names name v) None
+
+abbrev pub integer_field_of : List ℕ → Option IntegerField
+integer_field_of v = cond (eqb (get_or v 0 0 % 4) 2) (integer_found v) None
+
+-- a header is these bytes', an object's, and each offset lies in them
+pub record IsObject (v : List ℕ) (h : Head) : Type 0 where
+  pub object : get_or v 0 0 % 4 ≡ 2
+  pub count : h.count ≡ object_count v
+  pub ids : h.ids ≡ stored_ids v
+  pub offsets : h.offsets ≡ object_offsets v
+  pub from : h.from ≡ object_from v
+  pub inside : Inside v

@@ -2,6 +2,10 @@
 // function demands anything of its caller.
 #![tactic(auto)]
 
+ghost use Rattle.std.specs.Prelude.{◌≡◌};
+ghost use Rattle.encoding.specs.Rows.{first};
+ghost use Rattle.grammar.specs.Tests.{pair_rows};
+
 mod errors;
 mod fields;
 mod read;
@@ -10,6 +14,14 @@ mod validate;
 pub use errors::ReadError;
 pub use fields::{field, find_field, first_integer};
 pub use read::read_pair;
+
+// A dictionary and a value of the grammar over its names, as `read_pair` found them.
+#[derive(Clone, Copy)]
+pub struct Pair<'a> {
+    dictionary: &'a [u8],
+    value: &'a [u8],
+    ghost read: { first (pair_rows dictionary.now value.now) ≡ 0 },
+}
 
 // Where a field's value lies in the value's bytes.
 #[derive(Clone, Copy, PartialEq, Eq, Debug)]

@@ -1,5 +1,6 @@
 // The reader's calls for other languages (document 02, A6 and A13): slices lent, numbers told. No call demands anything of its caller but that what
 // is lent is valid and does not overlap, which is outside the proof. What a call does not tell stays as it was.
+// Kept (1d, 5b; C interface): a refusal is told as its number, 0 without one, and each slice and word is lent on its own.
 #![tactic(auto)]
 
 ghost use Rattle.std.specs.Prelude.{◌≡◌};
@@ -16,7 +17,7 @@ pub extern "C" fn variant_read(metadata: &[u8], value: &[u8]) -> u8
     ensures { result ≡ first (pair_rows metadata.now value.now) }
 {
     match read_pair(metadata, value) {
-        Ok(()) => 0,
+        Ok(_) => 0,
         Err(error) => error.number(),
     }
 }

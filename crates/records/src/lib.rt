@@ -8,7 +8,7 @@ ghost use Rattle.semantics.specs.Record.{chained, container_at, elements_at, mar
 ghost use Rattle.semantics.specs.Record.{encloses as encloses_of, under as under_of};
 
 use marks::{NUMBERS, marks_fit};
-use semantics::{Builder, Container, Counts, Mark, View, no_container};
+use semantics::{Builder, Container, Counts, Mark, View, mark_now, no_container};
 
 // A builder's record, read piece by piece.
 pub trait Record {
@@ -22,6 +22,7 @@ pub trait Record {
         ensures { result ≡ container_at (builder self.now).containers i };
 
     // Its elements.
+    // Kept (1d; no plainer): by definition (`elements_at`) there are 0 at a depth that is not there, so that every depth is answered.
     fn elements(&self, i: usize) -> usize
         ensures { result ≡ elements_at (builder self.now).elements i };
 }
@@ -59,25 +60,22 @@ pub fn view_of<R: Record>(r: &R, marks: &[usize; NUMBERS]) -> View
 }
 
 // Of d open containers the innermost, which is 1 back, or its parent, 2 back.
+// Kept (4; no plainer): the choice is the library's `map_or`; only the contract says it by a condition.
 #[inline(always)]
 fn container_back<R: Record>(r: &R, d: usize, back: usize) -> Container
     ensures { result ≡ cond (leb back d) (container_at (R.builder r.now).containers (d - back)) no_container }
 {
-    match d.checked_sub(back) {
-        Some(i) => r.container(i),
-        None => no_container(),
-    }
+    d.checked_sub(back)
+        .map_or(no_container(), |i| r.container(i))
 }
 
 // Its elements.
+// Kept (4; no plainer): as `container_back`.
 #[inline(always)]
 fn elements_back<R: Record>(r: &R, d: usize, back: usize) -> usize
     ensures { result ≡ cond (leb back d) (elements_at (R.builder r.now).elements (d - back)) 0 }
 {
-    match d.checked_sub(back) {
-        Some(i) => r.elements(i),
-        None => 0,
-    }
+    d.checked_sub(back).map_or(0, |i| r.elements(i))
 }
 
 // Are at most 64 open, does no starting mark fall from one to the next, does no list with a child open in it count too much, and are the
@@ -90,6 +88,8 @@ fn holds<R: Record>(r: &R, marks: &[usize; NUMBERS], d: usize) -> bool
     d <= 64 && rises(r, d) && marks_hold(r, marks, d)
 }
 
+// Does each container enclose the next? The tests are joined by `&`, without a branch, since every call makes them.
+// Kept (3; no plainer): `all` would ask after each step whether to go on, for an end that only a damaged record has.
 #[inline(always)]
 fn rises<R: Record>(r: &R, d: usize) -> bool
     requires { d ≤ 64 }
@@ -97,7 +97,7 @@ fn rises<R: Record>(r: &R, d: usize) -> bool
 {
     let mut ok = true;
     for i in (1..d).rev() {
-        ok = ok & encloses(&r.container(i - 1), r.elements(i - 1), &r.container(i));
+        ok &= encloses(&r.container(i - 1), r.elements(i - 1), &r.container(i));
     }
     ok
 }
@@ -112,6 +112,7 @@ fn encloses(k: &Container, n: usize, l: &Container) -> bool
 }
 
 // Do the starting marks of the one lie at or below those of the other?
+// Kept (2; no plainer): `not_above` of marks asks the same of two marks, into which these lent containers would first be copied, at every call.
 #[inline(always)]
 fn under(k: &Container, l: &Container) -> bool
     ensures { result ≡ under_of k.now l.now }
@@ -120,6 +121,8 @@ fn under(k: &Container, l: &Container) -> bool
     (k.value <= l.value) & ((k.names <= l.names) & ((k.text <= l.text) & entries))
 }
 
+// Are the marks in order in each container?
+// Kept (3; no plainer): as `rises`.
 #[inline(always)]
 fn marks_hold<R: Record>(r: &R, marks: &[usize; NUMBERS], d: usize) -> bool
     requires { d ≤ 64 }
@@ -128,7 +131,7 @@ fn marks_hold<R: Record>(r: &R, marks: &[usize; NUMBERS], d: usize) -> bool
 {
     let mut ok = true;
     for i in (0..d).rev() {
-        ok = ok & fits_at(r, marks, i);
+        ok &= fits_at(r, marks, i);
     }
     ok
 }
@@ -140,19 +143,4 @@ fn fits_at<R: Record>(r: &R, marks: &[usize; NUMBERS], i: usize) -> bool
 {
     let k = r.container(i);
     k.marks == 0 || marks_fit(marks, i, k, mark_now(r.counts(), r.elements(i), k.unique))
-}
-
-// What a mark would be now in a container with n elements.
-fn mark_now(c: Counts, n: usize, unique: bool) -> Mark
-    ensures { result ≡ mark_now c n unique }
-{
-    Mark {
-        value: c.value,
-        names: c.dictionary.num_field_names(),
-        text: c.dictionary.metadata_size(),
-        entries: c.entries,
-        undo: c.undo,
-        count: n,
-        unique,
-    }
 }

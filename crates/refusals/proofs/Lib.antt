@@ -3,3 +3,4 @@ pub mod ViewLaws
 pub mod NameLaws
 pub mod NumberLaws
 pub mod RowLaws
+pub mod NamedLaws

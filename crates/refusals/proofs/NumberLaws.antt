@@ -9,11 +9,11 @@ use borrow.Author.Tests.{le-leb, le-ltb, lt-leb, lt-ltb, ltb-true, ltb-false}
 use native.Mathlib.Omega.{arith}
 use Rattle.encoding.specs.Rows.{first}
 use Rattle.metadata.specs.Names.{intact, field_names}
+use Rattle.container.specs.declared.Entry.{Entry}
 use Rattle.container.specs.declared.Search.{Search}
 use Rattle.container.specs.Layout.{largest}
 use Rattle.container.specs.Entries.{Searches, ids_of, room_for}
 use Rattle.measure.specs.Measure.{whole_values}
-use Rattle.semantics.specs.declared.ParentEntry.TheVariants.{New, Replaced}
 use Rattle.semantics.specs.declared.View.{View}
 use Rattle.semantics.specs.Record.{Storage, close, roll_back, uniqueness, set_mark, return_to, is_open, in_object, inner_size, inner_data, inner_entries, parent_size, parent_entries}
 use Rattle.semantics.specs.Damage.{bad_floor, fallen_ends, misplaced_inner, misplaced_parent, orphaned, unrecorded, uncounted, damaged_parent, misread}
@@ -51,7 +51,7 @@ module _ (v : View) (l : Storage) (below : 1 < v.counts.depth) (h : v.inner.entr
   parent_by false e q r = record { number = rw (lt-ltb 1 v.counts.depth below, sym q ∙ e); place = λ z. ap Ok (rw (lt-ltb 1 v.counts.depth below) r) }
 
   -- of a new child: an object has an entry, a list an element
-  pub parent_new : {t : Bool} → v.inner.parent ≡ New → Searches l.entries v.parent.entries v.inner.entries true (field_names v.counts.dictionary) (parent_size v) 0 s
+  pub parent_new : {t : Bool} → v.inner.parent ≡ None → Searches l.entries v.parent.entries v.inner.entries true (field_names v.counts.dictionary) (parent_size v) 0 s
       → childless_by v s ≡ t → ParentOf v l (cond t (Err refusal.Damaged) (Ok None))
   unfolding misplaced_parent
   parent_new {t} e q i =
@@ -63,13 +63,13 @@ module _ (v : View) (l : Storage) (below : 1 < v.counts.depth) (h : v.inner.entr
       go false m n k = sym (or-false (eqb k 0))
 
   -- of a child that replaced another: the parent is an object, has an entry of its id, enough data and, under a mark, fewer undo records
-  pub parent_replaced : {t : Bool} (id offset : ℕ) → v.inner.parent ≡ Replaced id offset
-      → Searches l.entries v.parent.entries v.inner.entries true (field_names v.counts.dictionary) (parent_size v) id s
-      → unlike_by v s offset ≡ t → ParentOf v l (cond t (Err refusal.Damaged) (Ok (Some s.place)))
+  pub parent_replaced : {t : Bool} (former : Entry) → v.inner.parent ≡ Some former
+      → Searches l.entries v.parent.entries v.inner.entries true (field_names v.counts.dictionary) (parent_size v) former.id s
+      → unlike_by v s former.offset ≡ t → ParentOf v l (cond t (Err refusal.Damaged) (Ok (Some s.place)))
   unfolding misplaced_parent
-  parent_replaced {t} id offset e q i =
+  parent_replaced {t} former e q i =
       parent_by t i
-      (rw (e, not_ltb s.place v.inner.entries, q.misplaced_any, q.place_first, range_within _ _ _ h, found_before l.entries v.parent.entries v.inner.entries id) (go v.parent.object _ _ _))
+      (rw (e, not_ltb s.place v.inner.entries, q.misplaced_any, q.place_first, range_within _ _ _ h, found_before l.entries v.parent.entries v.inner.entries former.id) (go v.parent.object _ _ _))
       (rw (e, q.place_first, range_within _ _ _ h))
     where
       go : (o m r u : Bool) → (not o || (m || (r || u))) ≡ ((o && m) || ((not o || r) || u))

@@ -1,27 +1,30 @@
 -- What each call's decision answers: a call's number by the rows of `semantics`, and then what its name means.
-use Rattle.std.specs.Prelude.{◌≡◌, Bool, false, cond, not, ◌&&◌, ◌||◌, List, [], ◌∷◌, ℕ, ◌+◌, eqb, leb, ltb, drop, length, take, is_some, Option as Optional, Some, None, Result, Ok, Err}
+use Rattle.std.specs.Prelude.{◌≡◌, Bool, true, false, cond, not, ◌&&◌, ◌||◌, List, [], ◌∷◌, ℕ, ◌+◌, eqb, leb, ltb, drop, length, take, is_some, Option as Optional, Some, None, Result, Ok, Err}
 use Rattle.std.specs.Borrow.{Bor}
 use Rattle.std.proofs.Math.Option.{Option, none, some}
 use Rattle.encoding.specs.Rows.{Row, row, first}
 use Rattle.encoding.specs.Slices.{fits}
 use Rattle.metadata.specs.Names.{Name, intact}
-use Rattle.metadata.specs.Calls.{Told}
+use Rattle.metadata.specs.declared.FieldName.{FieldName}
+use Rattle.metadata.specs.declared.FieldName.TheVariants.{Found, New}
+use Rattle.metadata.specs.declared.NameError.{NameError}
+use Rattle.container.specs.declared.Entry.{Entry}
 use Rattle.container.specs.declared.Search.{Search}
 use Rattle.container.specs.Layout.{largest}
 use Rattle.container.specs.Entries.{ids_of, room_for, seek}
-use Rattle.semantics.specs.declared.ParentEntry.{ParentEntry}
-use Rattle.semantics.specs.declared.ParentEntry.TheVariants.{New, Replaced}
 use Rattle.semantics.specs.declared.View.{View}
 use Rattle.semantics.specs.declared.refusal.Refusal.{Refusal}
 use Rattle.semantics.specs.declared.refusal.Refusal.TheVariants as refusal
-use Rattle.semantics.specs.Refusal.{refusal_number, number_told}
+use Rattle.semantics.specs.Refusal.{name_refusal, number_told}
 use Rattle.semantics.specs.Record.{Storage, storage_of, close, finish, is_open, in_object, inner_entries, parent_size, parent_entries, unique_now}
 use Rattle.semantics.specs.Damage.{damaged, fallen_ends, misplaced_inner, over_used, unchained, bad_floor, damaged_parent, uncounted}
-use Rattle.semantics.specs.Table.{rows, held, live_under, bad_name, misnamed, names_full, second_top, too_long}
-use Rattle.semantics.specs.Step.{id_for, place_for}
+use Rattle.semantics.specs.Table.{rows, held, id_of, live_under, bad_name, misnamed, names_full, second_top, too_long}
+use Rattle.semantics.specs.Step.{place_for}
+use Rattle.refusals.specs.declared.Entering.{Entering}
+use Rattle.refusals.specs.declared.Entering.TheVariants as entering
 use Rattle.refusals.specs.declared.Field.{Field}
+use Rattle.refusals.specs.declared.Field.TheVariants.{Unnamed, Fresh, Held}
 use Rattle.refusals.specs.declared.Seen.{Seen}
-use Rattle.refusals.specs.declared.lookup.Known.{Known}
 
 -- document 01, "with or without a field name"
 unfoldable pub name_of : Bool → Name → Option Name
@@ -46,10 +49,37 @@ abbrev pub live_into : Bool → View → Storage → Option Name → Bool
 live_into into v l nm = into && live_under v l nm
 
 unfoldable pub field_of : Bool → View → Storage → Option Name → Field
-field_of into v l nm = record { id = id_for v l nm; place = cond (live_into into v l nm) (Some (place_for v l nm)) None; new = is_new v l nm }
+field_of into v l none = Unnamed
+field_of into v l (some n) =
+    cond (held v l n) (Held (id_of v l n) (cond (live_into into v l (some n)) (Some (place_for v l (some n))) None)) (Fresh (id_of v l n))
 
-abbrev pub no_field : Field
-no_field = record { id = 0; place = None; new = false }
+-- its id, the place of its entry where it is live, and whether it is new
+abbrev pub field_id : Field → ℕ
+field_id Unnamed = 0
+field_id (Fresh id) = id
+field_id (Held id place) = id
+
+abbrev pub field_place : Field → Optional ℕ
+field_place Unnamed = None
+field_place (Fresh id) = None
+field_place (Held id place) = place
+
+abbrev pub field_fresh : Field → Bool
+field_fresh Unnamed = false
+field_fresh (Fresh id) = true
+field_fresh (Held id place) = false
+
+-- ---- which call it is: all but a register enter a value, and an open opens a container
+
+abbrev pub into_of : Entering → Bool
+into_of entering.Register = false
+into_of entering.Append = true
+into_of entering.Open = true
+
+abbrev pub opens_of : Entering → Bool
+opens_of entering.Register = false
+opens_of entering.Append = false
+opens_of entering.Open = true
 
 -- ---- the answers: a number n and, where it is 0, what the call then needs
 
@@ -58,9 +88,9 @@ pub record Decides (n : ℕ) (into : Bool) (v : View) (l : Storage) (nm : Option
   pub field : n ≡ 0 → r ≡ Ok (field_of into v l nm)
 
 -- the place of the parent's entry that gets its former offset again, if one does
-abbrev pub place_back : View → Storage → ParentEntry → Optional ℕ
-place_back v l New = None
-place_back v l (Replaced id offset) = Some (v.parent.entries + seek id (parent_entries v l))
+abbrev pub place_back : View → Storage → Optional Entry → Optional ℕ
+place_back v l None = None
+place_back v l (Some former) = Some (v.parent.entries + seek former.id (parent_entries v l))
 
 pub record Backs (n : ℕ) (v : View) (l : Storage) (r : Result (Optional ℕ) Refusal) : Type 0 where
   pub number : number_told r ≡ n
@@ -94,29 +124,28 @@ finish_by v l out =
 abbrev pub misnamed_by : Bool → View → Bool
 misnamed_by named v = cond named (not (in_object v)) (in_object v)
 
-abbrev pub told_by : Result Known Refusal → Told
-told_by (Ok k) = record { number = 0; id = k.id; new = k.new }
-told_by (Err r) = record { number = refusal_number r; id = 0; new = false }
-
 -- the id to be sought
-abbrev pub known_id : Result Known Refusal → ℕ
-known_id (Ok k) = k.id
-known_id (Err r) = 0
+abbrev pub known_id : Result FieldName NameError → ℕ
+known_id (Ok (Found id)) = id
+known_id (Ok (New id)) = id
+known_id (Err e) = 0
 
--- the field of a name that has an id, and of what the pass over the entries finds of it
-abbrev pub live_by : Bool → View → Known → Search → Bool
-live_by into v k s = into && (is_open v && (not k.new && ltb s.place v.counts.entries))
+-- the place of a held name's entry, where it is live, of what the pass over the entries finds of it
+abbrev pub live_by : Bool → View → Search → Optional ℕ
+live_by into v s = cond (into && (is_open v && ltb s.place v.counts.entries)) (Some s.place) None
 
-abbrev pub field_by : Bool → View → Search → Result Known Refusal → Result Field Refusal
-field_by into v s (Ok k) = Ok (record { id = k.id; place = cond (live_by into v k s) (Some s.place) None; new = k.new })
-field_by into v s (Err r) = Err r
+-- the field of a name
+abbrev pub field_by : Bool → View → Search → Result FieldName NameError → Result Field Refusal
+field_by into v s (Ok (Found id)) = Ok (Held id (live_by into v s))
+field_by into v s (Ok (New id)) = Ok (Fresh id)
+field_by into v s (Err e) = Err (name_refusal e)
 
-abbrev pub named_by : Bool → View → Result Known Refusal → Search → Result Field Refusal
+abbrev pub named_by : Bool → View → Result FieldName NameError → Search → Result Field Refusal
 named_by into v k s = cond (into && (in_object v && s.misplaced)) (Err refusal.Damaged) (field_by into v s k)
 
 -- is the name live, of what is known of it
 abbrev pub live_told : Result Field Refusal → Bool
-live_told (Ok f) = is_some f.place
+live_told (Ok f) = is_some (field_place f)
 live_told (Err r) = false
 
 -- the scalar's bytes, of what it gives: these or its own refusal

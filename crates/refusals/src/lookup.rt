@@ -1,24 +1,18 @@
 // A name given to a call: looked up among the names, then among the innermost container's entries, in one pass each.
 ghost use Rattle.std.specs.Prelude.{◌≡◌, ◌&&◌, false, true};
-ghost use Rattle.metadata.specs.Calls.{lookup};
+ghost use Rattle.metadata.specs.Calls.{lookup, told};
 ghost use Rattle.metadata.specs.Names.{field_names};
 ghost use Rattle.container.specs.Entries.{Searches};
 ghost use Rattle.semantics.specs.Record.{in_object, inner_size};
-ghost use Rattle.refusals.specs.Decide.{Sees, broken_of, known_id, name_in, name_of, named_by, no_field, storage_in, told_by};
+ghost use Rattle.refusals.specs.Decide.{Sees, broken_of, into_of, known_id, live_by, name_in, name_of, named_by, storage_in};
 
-use crate::{Field, Seen};
+use crate::{Entering, Field, Seen};
 use container::{Search, search_entries};
 use metadata::{FieldName, NameError};
 use semantics::Refusal;
 
-// A name that has an id, and whether it is a new one.
-#[derive(Clone, Copy)]
-pub(crate) struct Known {
-    pub id: usize,
-    pub new: bool,
-}
-
 // A name that comes beside a flag, which says whether it is given.
+// Kept (1c, 5b; C interface): the exported calls are lent a name and a number that says whether it counts.
 #[tactic(auto, unfolding(crate::specs::Decide::name_of))]
 pub fn name_if(named: bool, name: &[u8]) -> Option<&[u8]>
     ensures { name_in result ≡ name_of named name.now }
@@ -26,27 +20,12 @@ pub fn name_if(named: bool, name: &[u8]) -> Option<&[u8]>
     if named { Some(name) } else { None }
 }
 
-fn no_field() -> Field
-    ensures { result ≡ no_field }
-{
-    Field {
-        id: 0,
-        place: None,
-        new: false,
-    }
-}
-
 impl Seen<'_> {
-    fn look_up(&self, name: &[u8]) -> Result<Known, Refusal>
-        ensures { told_by result ≡ lookup self.now.view.now.counts.dictionary self.now.text.now self.now.ends.now name.now }
+    // Kept (2; no plainer): alike in form only: another question to the dictionary.
+    fn look_up(&self, name: &[u8]) -> Result<FieldName, NameError>
+        ensures { told result ≡ lookup self.now.view.now.counts.dictionary self.now.text.now self.now.ends.now name.now }
     {
-        match self.names().field_name(name) {
-            Ok(FieldName::Found(id)) => Ok(Known { id, new: false }),
-            Ok(FieldName::New(id)) => Ok(Known { id, new: true }),
-            Err(NameError::Damaged) => Err(Refusal::Damaged),
-            Err(NameError::NotUtf8) => Err(Refusal::BadName),
-            Err(NameError::Full) => Err(Refusal::NamesFull),
-        }
+        self.names().field_name(name)
     }
 
     // The pass over the innermost container's entries, which seeks one id.
@@ -68,47 +47,59 @@ impl Seen<'_> {
         self.in_object() && s.misplaced
     }
 
-    // What that pass finds counts where a value is entered (`into`), and not for a register; that one is misplaced, in an object.
-    pub(crate) fn field_of(&self, name: Option<&[u8]>, into: bool) -> Result<Field, Refusal>
+    // What that pass finds counts where a value is entered, and not for a register; that one is misplaced, in an object.
+    pub(crate) fn field_of(&self, name: Option<&[u8]>, call: Entering) -> Result<Field, Refusal>
         requires { broken_of self.now.view.now (storage_in self.now) ≡ false }
-        ensures { Sees into self.now.view.now (storage_in self.now) (name_in name.entry) result }
+        ensures { Sees (into_of call) self.now.view.now (storage_in self.now) (name_in name.entry) result }
     {
         let Some(name) = name else {
-            return Ok(no_field());
+            return Ok(Field::Unnamed);
         };
         let known = self.look_up(name);
         let s = self.search(id_known(known));
-        self.field_by(known, s, into)
+        self.field_by(known, s, call)
     }
 
     // Of a look-up, and of what is found of its id.
     fn field_by(
         &self,
-        known: Result<Known, Refusal>,
+        known: Result<FieldName, NameError>,
         s: Search,
-        into: bool,
+        call: Entering,
     ) -> Result<Field, Refusal>
-        ensures { result ≡ named_by into self.now.view.now known s }
+        ensures { result ≡ named_by (into_of call) self.now.view.now known s }
     {
-        if into && self.misplaced(s) {
+        if call.enters() && self.misplaced(s) {
             return Err(Refusal::Damaged);
         }
-        let name = known?;
-        let live = into && self.is_open() && !name.new && s.place < self.view.counts.entries;
-        Ok(Field {
-            id: name.id,
-            place: if live { Some(s.place) } else { None },
-            new: name.new,
-        })
+        match known? {
+            FieldName::New(id) => Ok(Field::Fresh(id)),
+            FieldName::Found(id) => Ok(Field::Held {
+                id,
+                place: self.live_place(s, call),
+            }),
+        }
+    }
+
+    // The place that is found of a name that is held, where it is live.
+    fn live_place(&self, s: Search, call: Entering) -> Option<usize>
+        ensures { result ≡ live_by (into_of call) self.now.view.now s }
+    {
+        if call.enters() && self.is_open() && s.place < self.view.counts.entries {
+            Some(s.place)
+        } else {
+            None
+        }
     }
 }
 
 // The id to be sought; of a name that has none it does not matter.
-fn id_known(known: Result<Known, Refusal>) -> usize
+// Kept (1d; no plainer): the pass runs in either case, since it also tells a misplaced entry; `field_by` then answers the error.
+fn id_known(known: Result<FieldName, NameError>) -> usize
     ensures { result ≡ known_id known }
 {
     match known {
-        Ok(name) => name.id,
+        Ok(FieldName::Found(id) | FieldName::New(id)) => id,
         Err(_) => 0,
     }
 }

@@ -7,13 +7,14 @@ ghost use Rattle.semantics.specs.Record.{parent_size, return_to, roll_back, set_
 ghost use Rattle.semantics.specs.Damage.{uncounted};
 ghost use Rattle.semantics.specs.Refusal.{number_told};
 ghost use Rattle.semantics.specs.Table.{make_rows, no_mark_free, not_set, number_of};
-ghost use Rattle.refusals.specs.Decide.{Backs, ClosesBy, Decides, ParentOf, Passes, broken_of, childless_by, enter_by, enter_rows, finish_by, full_by, late_of, live_told, misread_by, name_in, size_told, storage_in, unkept_by, unlike_by};
+ghost use Rattle.refusals.specs.Decide.{Backs, ClosesBy, Decides, ParentOf, Passes, broken_of, childless_by, enter_by, enter_rows, finish_by};
+ghost use Rattle.refusals.specs.Decide.{full_by, into_of, late_of, live_told, misread_by, name_in, opens_of, size_told, storage_in, unkept_by, unlike_by};
 
-use crate::{Field, Seen};
+use crate::{Entering, Field, Seen};
 use container::{Search, search_entries};
 use encoding::slices::fits;
 use measure::whole_values;
-use semantics::{ParentEntry, Refusal, good_floor};
+use semantics::{Refusal, good_floor};
 
 // A builder to be made.
 #[tactic(auto, unfolding(encoding::specs::Rows::first))]
@@ -31,44 +32,42 @@ fn is_live(known: Result<Field, Refusal>) -> bool
     ensures { result ≡ live_told known }
 {
     match known {
-        Ok(f) => f.place.is_some(),
+        Ok(f) => f.place().is_some(),
         Err(_) => false,
     }
 }
 
 impl Seen<'_> {
-    // A register, an append and an open, and what their name means. `into` is false of a register, which enters nothing into a
-    // container, whatever is open; `opens` is true of an open; `size` is the scalar's bytes, or its own refusal.
+    // A register, an append and an open, and what their name means; `size` is the scalar's bytes, or its own refusal.
     pub fn may_enter(
         &self,
         name: Option<&[u8]>,
-        into: bool,
-        opens: bool,
+        call: Entering,
         size: Result<usize, Refusal>,
     ) -> Result<Field, Refusal>
         ensures { Decides
             (first
-            (enter_rows self.now.view.now (storage_in self.now) (name_in name.entry) into opens
+            (enter_rows self.now.view.now (storage_in self.now) (name_in name.entry) (into_of call) (opens_of call)
             (number_told size) (size_told size)))
-            into self.now.view.now (storage_in self.now) (name_in name.entry) result }
+            (into_of call) self.now.view.now (storage_in self.now) (name_in name.entry) result }
     {
         if self.broken() {
             return Err(Refusal::Damaged);
         }
-        let known = self.field_of(name, into);
-        self.rows(known, name.is_some(), into, opens, size)
+        let known = self.field_of(name, call);
+        self.rows(known, name.is_some(), call, size)
     }
 
     // The first row that holds, of what is known of the name.
+    // Kept (1c; no plainer): row 5 asks only whether a name is given; what it means is in `known`.
     fn rows(
         &self,
         known: Result<Field, Refusal>,
         named: bool,
-        into: bool,
-        opens: bool,
+        call: Entering,
         size: Result<usize, Refusal>,
     ) -> Result<Field, Refusal>
-        ensures { Passes (enter_by self.now.view.now known named into opens size (length self.now.value.now)
+        ensures { Passes (enter_by self.now.view.now known named (into_of call) (opens_of call) size (length self.now.value.now)
             (length self.now.entries.now) (length self.now.undo.now)) known result }
     {
         let live = is_live(known);
@@ -78,10 +77,10 @@ impl Seen<'_> {
         if self.view.counts.finished {
             return Err(Refusal::Finished);
         }
-        if into && self.misnamed(named) {
+        if call.enters() && self.misnamed(named) {
             return Err(Refusal::Misnamed);
         }
-        if into && self.second_top() {
+        if call.enters() && self.second_top() {
             return Err(Refusal::SecondTop);
         }
         let size = size?;
@@ -91,11 +90,11 @@ impl Seen<'_> {
         if self.unique_now() && live {
             return Err(Refusal::Taken);
         }
-        if opens && 64 <= self.view.counts.depth {
+        if call.opens() && 64 <= self.view.counts.depth {
             return Err(Refusal::TooDeep);
         }
         let field = known?;
-        if self.entries_full(into, live) {
+        if self.entries_full(call, live) {
             return Err(Refusal::EntriesFull);
         }
         if self.undo_full(live) {
@@ -108,13 +107,18 @@ impl Seen<'_> {
     }
 
     // Row 13, of a name that is live or not: a list takes no entries.
-    fn entries_full(&self, into: bool, live: bool) -> bool
-        ensures { result ≡ full_by into self.now.view.now live (length self.now.entries.now) }
+    // Kept (1c; no plainer): `live` is the answer of `is_live`, asked once for rows 10, 13 and 23.
+    fn entries_full(&self, call: Entering, live: bool) -> bool
+        ensures { result ≡ full_by (into_of call) self.now.view.now live (length self.now.entries.now) }
     {
-        into && self.in_object() && !live && self.entries.len() / 2 <= self.view.counts.entries
+        call.enters()
+            && self.in_object()
+            && !live
+            && self.entries.len() / 2 <= self.view.counts.entries
     }
 
     // Row 23, of a name that is live or not: a replacement in an object with a mark takes an undo record.
+    // Kept (1c; no plainer): as row 13.
     fn undo_full(&self, live: bool) -> bool
         ensures { result ≡ unkept_by self.now.view.now live (length self.now.undo.now) }
     {
@@ -222,16 +226,16 @@ impl Seen<'_> {
             return Ok(None);
         }
         match self.view.inner.parent {
-            ParentEntry::New => {
+            None => {
                 let s = self.search_parent(0);
                 if self.childless(s) {
                     return Err(Refusal::Damaged);
                 }
                 Ok(None)
             }
-            ParentEntry::Replaced { id, offset } => {
-                let s = self.search_parent(id);
-                if self.unlike(s, offset) {
+            Some(former) => {
+                let s = self.search_parent(former.id);
+                if self.unlike(s, former.offset) {
                     return Err(Refusal::Damaged);
                 }
                 Ok(Some(s.place))

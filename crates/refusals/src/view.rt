@@ -9,11 +9,11 @@ ghost use Rattle.refusals.specs.Decide.{broken_of, misnamed_by, storage_in};
 use crate::Seen;
 use encoding::slices::counted;
 use metadata::Names;
-use semantics::good_floor;
+use semantics::{View, good_floor};
 
 impl Seen<'_> {
     // The names that are held.
-    pub(crate) fn names(&self) -> Names<'_>
+    pub fn names(&self) -> Names<'_>
         ensures counts { result.counts ≡ self.now.view.now.counts.dictionary }
         ensures text { result.text.now ≡ self.now.text.now }
         ensures ends { result.ends.now ≡ self.now.ends.now }
@@ -88,14 +88,11 @@ impl Seen<'_> {
     }
 
     // Row 5.
+    // Kept (1c; no plainer): only whether a name is given counts.
     pub(crate) fn misnamed(&self, named: bool) -> bool
         ensures { result ≡ misnamed_by named self.now.view.now }
     {
-        if named {
-            !self.in_object()
-        } else {
-            self.in_object()
-        }
+        named != self.in_object()
     }
 
     // Row 6.
@@ -105,14 +102,21 @@ impl Seen<'_> {
         !self.is_open() && 0 < self.view.counts.value
     }
 
-    // The uniqueness mark that holds now.
+    // The same, of what this call sees.
     pub fn unique_now(&self) -> bool
         ensures { result ≡ unique_now self.now.view.now }
     {
-        if self.is_open() {
-            self.view.inner.unique
-        } else {
-            self.view.counts.unique
-        }
+        unique_now(self.view)
+    }
+}
+
+// The uniqueness mark that holds now.
+pub fn unique_now(v: &View) -> bool
+    ensures { result ≡ unique_now v.now }
+{
+    if 0 < v.counts.depth {
+        v.inner.unique
+    } else {
+        v.counts.unique
     }
 }

@@ -1,6 +1,5 @@
 // Whether bytes are one scalar.
 ghost use Rattle.std.specs.Prelude.{◌≡◌, suc, ◌%◌, ◌<◌, ◌∷◌, length};
-ghost use Rattle.value.specs.Decimal.{beyond, beyond_day};
 ghost use Rattle.value.specs.Scalar.{type_of_byte};
 ghost use Rattle.measure.specs.Measure.{measured};
 ghost use Rattle.grammar.specs.Scalars.{outside};
@@ -8,9 +7,7 @@ ghost use Rattle.grammar.specs.Tests.{is_scalar};
 
 use encoding::utf8::is_utf8;
 use measure::value_length;
-
-// The largest integer of 38 digits.
-const MOST_16: u128 = 99_999_999_999_999_999_999_999_999_999_999_999_999;
+use value::decimal::{MOST_16, is_beyond, time_out_of_range};
 
 // Are the bytes one scalar and no more, as long as stored and within its range?
 pub fn is_scalar(v: &[u8]) -> bool
@@ -43,21 +40,8 @@ fn is_outside(first: u8, payload: &[u8]) -> bool
         64 => !is_utf8(&payload[4..]),
         68 => {
             let micros = i64::from_le_bytes(*payload.last_chunk().unwrap());
-            is_beyond_day(micros)
+            time_out_of_range(micros)
         }
         _ => first % 4 == 1 && !is_utf8(payload),
     }
-}
-
-// Is the scale above 38, or the integer's magnitude above `most`?
-fn is_beyond(most: u128, scale: u8, integer: i128) -> bool
-    ensures { result ≡ beyond most scale integer }
-{
-    38 < scale || most < integer.unsigned_abs()
-}
-
-fn is_beyond_day(micros: i64) -> bool
-    ensures { result ≡ beyond_day micros }
-{
-    micros < 0 || 86_399_999_999 < micros
 }

@@ -11,6 +11,7 @@ use lib.Dec.{eqb, leb, ltb, leb-suc-suc}
 use lib.Seq.{take_at, drop_at}
 use lib.ListN.{drop, take, length, length-append, length-map}
 use borrow.Author.Tests.{eq-eqb, ne_eqb, eqb-true, eqb-false, ltb-true, ltb-false, leb-false, le-ltb, lt-leb, lt-ltb}
+use Rattle.std.specs.Prelude.{Option as Optional, Some, None}
 use Rattle.metadata.specs.Names.{Name, same, place}
 use Rattle.metadata.proofs.DictionaryLaws.{same_equal, same_differs}
 use Rattle.metadata.proofs.DictionaryLaws as dictionary
@@ -21,8 +22,6 @@ use Rattle.container.specs.Sort.{sort}
 use Rattle.container.proofs.LayoutLaws.{length_list}
 use Rattle.container.proofs.SortLaws.{Mem, Incl, Pairwise, Distinct, sort_unique, length_sort, largest_sort, length_object_entries}
 use Rattle.measure.specs.Measure.{measured, starts_in, whole_values}
-use Rattle.semantics.specs.declared.ParentEntry.{ParentEntry}
-use Rattle.semantics.specs.declared.ParentEntry.TheVariants.{New, Replaced}
 use Rattle.semantics.specs.Damage.{orphaned}
 use Rattle.semantics.specs.Tree.{Label, element, live, replaced, Tree, nest, Items, empty, item, data_of, starts_from, with_field, fields_from, list_bytes, object_bytes, encode, parts_of}
 use Rattle.semantics.specs.History.{unlive, replace, snoc, entered}
@@ -42,8 +41,8 @@ abbrev pub has_id : ℕ → List Entry → Bool
 has_id i es = ltb (seek i es) (length es)
 
 -- a fact about put, find and the search, by what they do at the end, at an entry of that id, and behind another one
-pub put_cases : (P : List Entry → List Entry → ParentEntry → Bool → Type 0) (i o : ℕ) (es : List Entry) → P [] (entry i o ∷ []) New false
-    → ((e : Entry) (es : List Entry) → e.id ≡ i → P (e ∷ es) (entry i o ∷ es) (Replaced i e.offset) true)
+pub put_cases : (P : List Entry → List Entry → Optional Entry → Bool → Type 0) (i o : ℕ) (es : List Entry) → P [] (entry i o ∷ []) None false
+    → ((e : Entry) (es : List Entry) → e.id ≡ i → P (e ∷ es) (entry i o ∷ es) (Some (entry i e.offset)) true)
     → ((e : Entry) (es : List Entry) → e.id ≢ i → P es (put i o es) (find i es) (has_id i es) → P (e ∷ es) (e ∷ put i o es) (find i es) (has_id i es))
     → P es (put i o es) (find i es) (has_id i es)
 unfolding put find seek
@@ -51,10 +50,10 @@ put_cases P i o [] a b c = a
 put_cases P i o (e ∷ es) a b c = go (eqb e.id i) refl (put_cases P i o es a b c)
   where
     go : (t : Bool) → eqb e.id i ≡ t → P es (put i o es) (find i es) (has_id i es)
-        → P (e ∷ es) (cond t (entry e.id o ∷ es) (e ∷ put i o es)) (cond t (Replaced i e.offset) (find i es)) (ltb (cond t 0 (1 + seek i es)) (suc (length es)))
+        → P (e ∷ es) (cond t (entry e.id o ∷ es) (e ∷ put i o es)) (cond t (Some (entry i e.offset)) (find i es)) (ltb (cond t 0 (1 + seek i es)) (suc (length es)))
     go true p h = let q : ltb 0 (suc (length es)) ≡ true = lt-ltb 0 (suc (length es)) (omega arith) in
         let r = eqb-true e.id i p in
-        rw q (subst (λ (j : ℕ). P (e ∷ es) (entry j o ∷ es) (Replaced i e.offset) true) (sym r) (b e es r))
+        rw q (subst (λ (j : ℕ). P (e ∷ es) (entry j o ∷ es) (Some (entry i e.offset)) true) (sym r) (b e es r))
     go false p h =
         let s : 1 + seek i es ≡ suc (seek i es) = omega arith in
         let q : ltb (1 + seek i es) (suc (length es)) ≡ has_id i es = ap (λ n. ltb n (suc (length es))) s ∙ leb-suc-suc (suc (seek i es)) (length es) in
@@ -446,9 +445,9 @@ module _ {floor : ℕ} {ns : List Name} {is : Items} {seg : List Entry} {count :
 -- ---- a note is undone
 
 -- what the kind of an entry tells: it is new, and the last; or the former offset brings the entries again
-abbrev pub Origin : ℕ → ℕ → ParentEntry → List Entry → List Entry → Type 0
-Origin i o New es fs = fs ≡ es ++ (entry i o ∷ [])
-Origin i o (Replaced j q) es fs = (j ≡ i) × (put i q fs ≡ es) × Mem (entry i q) es × (has_id i fs ≡ true)
+abbrev pub Origin : ℕ → ℕ → Optional Entry → List Entry → List Entry → Type 0
+Origin i o None es fs = fs ≡ es ++ (entry i o ∷ [])
+Origin i o (Some e) es fs = (e.id ≡ i) × (put i e.offset fs ≡ es) × Mem (entry i e.offset) es × (has_id i fs ≡ true)
 
 put_hit : (i o : ℕ) (e : Entry) (es : List Entry) → e.id ≡ i → put i o (e ∷ es) ≡ entry i o ∷ es
 unfolding put
@@ -469,22 +468,22 @@ put_origin i o es = put_cases (λ es fs p t. Origin i o p es fs) i o es refl
     ))
     (λ e es p h. later e es (put i o es) p (find i es) h)
   where
-    later : (e : Entry) (es fs : List Entry) → e.id ≢ i → (k : ParentEntry) → Origin i o k es fs → Origin i o k (e ∷ es) (e ∷ fs)
-    later e es fs p New h = ap (λ z. e ∷ z) h
-    later e es fs p (Replaced j q) h =
-        (h.0, put_miss i q e fs p ∙ ap (λ z. e ∷ z) h.1, inr h.2, has_first i e fs ∙ (ap (λ t. t || has_id i fs) (ne_eqb e.id i p) ∙ h.3))
+    later : (e : Entry) (es fs : List Entry) → e.id ≢ i → (k : Optional Entry) → Origin i o k es fs → Origin i o k (e ∷ es) (e ∷ fs)
+    later e es fs p None h = ap (λ z. e ∷ z) h
+    later e es fs p (Some f) h =
+        (h.0, put_miss i f.offset e fs p ∙ ap (λ z. e ∷ z) h.1, inr h.2, has_first i e fs ∙ (ap (λ t. t || has_id i fs) (ne_eqb e.id i p) ∙ h.3))
 
 -- the entries behind the first k, with that one undone
-abbrev pub undone : Bool → ℕ → ParentEntry → List Entry → List Entry
-undone object k New es = cond object (take (length es - 1) es) es
-undone object k (Replaced i o) es = take k es ++ put i o (drop k es)
+abbrev pub undone : Bool → ℕ → Optional Entry → List Entry → List Entry
+undone object k None es = cond object (take (length es - 1) es) es
+undone object k (Some e) es = take k es ++ put e.id e.offset (drop k es)
 
 take_snoc : (es : List Entry) (e : Entry) → take (length (es ++ (e ∷ [])) - 1) (es ++ (e ∷ [])) ≡ es
 take_snoc es e = take_at es (e ∷ []) (length (es ++ (e ∷ [])) - 1) (omega (arith, length-append es (e ∷ [])))
 
-undo_put_lem : (base es fs : List Entry) (i o : ℕ) (p : ParentEntry) → Origin i o p es fs → undone true (length base) p (base ++ fs) ≡ base ++ es
-undo_put_lem base es fs i o New r = rw (r, ← append_assoc base es (entry i o ∷ [])) (take_snoc (base ++ es) (entry i o))
-undo_put_lem base es fs i o (Replaced j q) r = rw (take_at base fs (length base) refl, drop_at base fs (length base) refl, r.0, r.1)
+undo_put_lem : (base es fs : List Entry) (i o : ℕ) (p : Optional Entry) → Origin i o p es fs → undone true (length base) p (base ++ fs) ≡ base ++ es
+undo_put_lem base es fs i o None r = rw (r, ← append_assoc base es (entry i o ∷ [])) (take_snoc (base ++ es) (entry i o))
+undo_put_lem base es fs i o (Some e) r = rw (take_at base fs (length base) refl, drop_at base fs (length base) refl, r.0, r.1)
 
 -- a note undone by its own kind brings the entries again
 pub undo_note : (object : Bool) (ns : List Name) (nm : Option Name) (o : ℕ) (base seg : List Entry) → Named object nm → undone object (length base) (link_in ns nm seg) (base ++ note_in ns nm o seg) ≡ base ++ seg
@@ -520,6 +519,6 @@ unfolding link_in note_in
 note_owned ns none o size count seg n h = absurd n
 note_owned ns (some y) o size count seg n h = go (find (place y ns) seg) (put_origin (place y ns) o seg)
   where
-    go : (p : ParentEntry) → Origin (place y ns) o p seg (put (place y ns) o seg) → orphaned p true count size (put (place y ns) o seg) ≡ false
-    go New r = ne_eqb (length (put (place y ns) o seg)) 0 (λ e. omega (arith, length-append seg (entry (place y ns) o ∷ []), ap length r))
-    go (Replaced j q) r = rw (r.0, r.3) (le-ltb size q (h (entry (place y ns) q) r.2).within)
+    go : (p : Optional Entry) → Origin (place y ns) o p seg (put (place y ns) o seg) → orphaned p true count size (put (place y ns) o seg) ≡ false
+    go None r = ne_eqb (length (put (place y ns) o seg)) 0 (λ e. omega (arith, length-append seg (entry (place y ns) o ∷ []), ap length r))
+    go (Some e) r = rw (r.0, r.3) (le-ltb size e.offset (h (entry (place y ns) e.offset) r.2).within)

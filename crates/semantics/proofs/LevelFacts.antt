@@ -10,6 +10,7 @@ use lib.Dec.{eqb, leb, ltb}
 use lib.Seq.{take_at, drop_at}
 use lib.ListN.{drop, take, length, length-append}
 use borrow.Author.Tests.{le-leb, lt-ltb, ne_eqb}
+use Rattle.std.specs.Prelude.{Option as Optional, Some, None}
 use Rattle.metadata.specs.Names.{Name, place}
 use Rattle.metadata.specs.Bytes.{joined}
 use Rattle.metadata.proofs.DictionaryLaws.{Distinct, distinct_front}
@@ -20,8 +21,6 @@ use Rattle.measure.specs.Measure.{whole_values}
 use Rattle.semantics.specs.declared.Container.{Container}
 use Rattle.semantics.specs.Tree.{element, live, replaced, Tree, Items, empty, item}
 use Rattle.semantics.specs.declared.Mark.{Mark}
-use Rattle.semantics.specs.declared.ParentEntry.{ParentEntry}
-use Rattle.semantics.specs.declared.ParentEntry.TheVariants.{New, Replaced}
 use Rattle.semantics.specs.Record.{mark_at_start}
 use Rattle.semantics.specs.Damage.{orphaned, replacing, unrecorded}
 use Rattle.semantics.specs.History.{Copy, Level}
@@ -468,10 +467,10 @@ not_unrecorded : (k p : Container) → p.undo + length (record_of p.marks k.pare
 unfolding record_of
 not_unrecorded k p h = go k.parent p.marks h
   where
-    go : (e : ParentEntry) (n : ℕ) → p.undo + length (record_of n e) ≤ k.undo → ((replacing e && ltb 0 n) && eqb k.undo p.undo) ≡ false
-    go New n h = refl
-    go (Replaced i o) zero h = refl
-    go (Replaced i o) (suc n) h =
+    go : (e : Optional Entry) (n : ℕ) → p.undo + length (record_of n e) ≤ k.undo → ((replacing e && ltb 0 n) && eqb k.undo p.undo) ≡ false
+    go None n h = refl
+    go (Some e) zero h = refl
+    go (Some e) (suc n) h =
         let a : ltb 0 (suc n) ≡ true = lt-ltb 0 (suc n) (omega arith) in
         rw (a, ne_eqb k.undo p.undo (λ e. omega (arith, e)))
 

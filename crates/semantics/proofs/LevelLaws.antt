@@ -8,14 +8,13 @@ use native.Mathlib.Omega.{arith}
 use lib.Dec.{ltb}
 use lib.Seq.{take_at, drop_at}
 use lib.ListN.{drop, take, length, length-append}
+use Rattle.std.specs.Prelude.{Option as Optional, Some, None}
 use Rattle.metadata.specs.Names.{Name}
 use Rattle.metadata.specs.Bytes.{joined}
 use Rattle.metadata.proofs.DictionaryLaws.{Distinct, place_held}
 use Rattle.container.specs.declared.Entry.{Entry}
 use Rattle.semantics.specs.declared.Container.{Container}
 use Rattle.semantics.specs.declared.Mark.{Mark}
-use Rattle.semantics.specs.declared.ParentEntry.{ParentEntry}
-use Rattle.semantics.specs.declared.ParentEntry.TheVariants.{New, Replaced}
 use Rattle.semantics.specs.Step.{with_unique, with_marks}
 use Rattle.semantics.specs.Tree.{Tree, nest, encode}
 use Rattle.semantics.specs.History.{Copy, Level, holding, with_name, enter, close_level}
@@ -352,10 +351,10 @@ levels_close floor top u l ls k ks ns s d h f small x =
 
 -- ---- roll back
 
-undo_is : (k : Container) (ks : List Container) (p : ParentEntry) (es : List Entry) → undo (k ∷ ks) p es ≡ undone k.object k.entries p es
+undo_is : (k : Container) (ks : List Container) (p : Optional Entry) (es : List Entry) → undo (k ∷ ks) p es ≡ undone k.object k.entries p es
 unfolding undo
-undo_is k ks New es = refl
-undo_is k ks (Replaced i o) es = refl
+undo_is k ks None es = refl
+undo_is k ks (Some e) es = refl
 
 -- the entries without a container's own are those before its open
 levels_undo : (floor : ℕ) (top : Option Tree) (u : Bool) (ls : List Level) (ks : List Container) (ns ms : List Name) (s : Used) (nm : Option Name) (at : ℕ) → Named (inner_object ls) nm → Levels floor top u ls ks ns s
@@ -381,9 +380,9 @@ elements_undo floor top u [] (k ∷ ks) ns ms s nm es n x = absurd x
 elements_undo floor top u (l ∷ ls) [] ns ms s nm es n x = absurd x
 elements_undo floor top u (l ∷ ls) (k ∷ ks) ns ms s nm es n x = rw (x.elements_are, x.opened.object) (ap (λ z. z ∷ one_more ks x.outer.elements) (go l.object nm n))
   where
-    stays : (p : ParentEntry) → less_of true p x.count ≡ x.count
-    stays New = refl
-    stays (Replaced i o) = refl
+    stays : (p : Optional Entry) → less_of true p x.count ≡ x.count
+    stays None = refl
+    stays (Some e) = refl
 
     go : (object : Bool) (nm : Option Name) → Named object nm → less_of object (link_in ms nm (drop k.entries es)) (cond object x.count (x.count + 1)) ≡ x.count
     go true nm n = stays (link_in ms nm (drop k.entries es))

@@ -6,6 +6,7 @@ use mathlib.Core.Option.{Option, none, some}
 use Prim.Native.Nat.{ℕ, zero, suc, ◌+◌, ◌-◌, ◌≤◌}
 use lib.Dec.{eqb, leb, ltb}
 use lib.ListN.{drop, length, take}
+use Rattle.std.specs.Prelude.{Option as Optional, Some, None}
 use Rattle.encoding.specs.Rows.{Row, row, first}
 use Rattle.encoding.specs.Slices.{counted, fits}
 use Rattle.value.specs.Scalar.{scalar_bytes}
@@ -20,8 +21,6 @@ use Rattle.measure.specs.Measure.{starts_in, whole_values}
 use Rattle.metadata.proofs.DictionaryLaws.{Distinct}
 use Rattle.semantics.specs.declared.Container.{Container}
 use Rattle.semantics.specs.declared.Mark.{Mark}
-use Rattle.semantics.specs.declared.ParentEntry.{ParentEntry}
-use Rattle.semantics.specs.declared.ParentEntry.TheVariants.{New, Replaced}
 use Rattle.semantics.specs.Record.{Call, register, append, open_in, close, roll_back, uniqueness, set_mark, return_to, finish, scalar_of, countable, mark_at_start, good_floor}
 use Rattle.semantics.specs.Damage.{orphaned, unrecorded}
 use Rattle.semantics.specs.Table.{scalar_rows, bad_name}
@@ -51,17 +50,17 @@ put i o [] = record { id = i; offset = o } ∷ []
 put i o (e ∷ es) = cond (eqb e.id i) (record { id = e.id; offset = o } ∷ es) (e ∷ put i o es)
 
 -- how the entry came about
-unfoldable pub find : ℕ → List Entry → ParentEntry
-find i [] = New
-find i (e ∷ es) = cond (eqb e.id i) (Replaced i e.offset) (find i es)
+unfoldable pub find : ℕ → List Entry → Optional Entry
+find i [] = None
+find i (e ∷ es) = cond (eqb e.id i) (Some (record { id = i; offset = e.offset })) (find i es)
 
 -- a list's element has none
 unfoldable pub note_in : List Name → Option Name → ℕ → List Entry → List Entry
 note_in ns none o es = es
 note_in ns (some n) o es = put (place n ns) o es
 
-unfoldable pub link_in : List Name → Option Name → List Entry → ParentEntry
-link_in ns none es = New
+unfoldable pub link_in : List Name → Option Name → List Entry → Optional Entry
+link_in ns none es = None
 link_in ns (some n) es = find (place n ns) es
 
 -- the entries with one for a value that starts at `at`, and how it came about
@@ -69,21 +68,21 @@ unfoldable pub note : List Name → List Container → Option Name → ℕ → L
 note ns [] nm at es = es
 note ns (k ∷ ks) nm at es = take k.entries es ++ note_in ns nm (at - k.value) (drop k.entries es)
 
-unfoldable pub link_of : List Name → List Container → Option Name → List Entry → ParentEntry
-link_of ns [] nm es = New
+unfoldable pub link_of : List Name → List Container → Option Name → List Entry → Optional Entry
+link_of ns [] nm es = None
 link_of ns (k ∷ ks) nm es = link_in ns nm (drop k.entries es)
 
 -- the parent's entries without the child's own
-unfoldable pub undo : List Container → ParentEntry → List Entry → List Entry
+unfoldable pub undo : List Container → Optional Entry → List Entry → List Entry
 undo [] p es = es
-undo (k ∷ ks) New es = cond k.object (take (length es - 1) es) es
-undo (k ∷ ks) (Replaced i o) es = take k.entries es ++ put i o (drop k.entries es)
+undo (k ∷ ks) None es = cond k.object (take (length es - 1) es) es
+undo (k ∷ ks) (Some e) es = take k.entries es ++ put e.id e.offset (drop k.entries es)
 
 -- the record that a value takes where so many marks are set
-unfoldable pub record_of : ℕ → ParentEntry → List Entry
+unfoldable pub record_of : ℕ → Optional Entry → List Entry
 record_of zero p = []
-record_of (suc n) New = []
-record_of (suc n) (Replaced i o) = record { id = i; offset = o } ∷ []
+record_of (suc n) None = []
+record_of (suc n) (Some e) = e ∷ []
 
 abbrev pub marks_at : List Container → ℕ
 marks_at [] = 0
@@ -114,11 +113,11 @@ one_more [] ns = ns
 one_more (k ∷ ks) ns = cond k.object (first_of 0 ns) (first_of 0 ns + 1) ∷ rest_of ns
 
 -- a child is rolled back: one less, of a list
-abbrev pub less_of : Bool → ParentEntry → ℕ → ℕ
-less_of object New n = cond object n (n - 1)
-less_of object (Replaced i o) n = n
+abbrev pub less_of : Bool → Optional Entry → ℕ → ℕ
+less_of object None n = cond object n (n - 1)
+less_of object (Some e) n = n
 
-unfoldable pub one_less : List Container → ParentEntry → List ℕ → List ℕ
+unfoldable pub one_less : List Container → Optional Entry → List ℕ → List ℕ
 one_less [] p ns = ns
 one_less (k ∷ ks) p ns = less_of k.object p (first_of 0 ns) ∷ rest_of ns
 

@@ -11,6 +11,7 @@ use lib.Dec.{eqb, leb, ltb}
 use lib.ListN.{drop, get_or, length, length-append, length-drop, length-set, set, take, take-append-drop}
 use lib.Seq.{length-take-le, take-take}
 use borrow.Author.Tests.{leb-true, leb-false, le-leb, lt-ltb, le-ltb, ltb-true, ltb-false, ne_eqb, not-false}
+use Rattle.std.specs.Prelude.{Option as Optional, Some, None}
 use Rattle.encoding.specs.Rows.{Row, row, first, test_of}
 use Rattle.encoding.specs.Slices.{counted, fits, write}
 use Rattle.encoding.proofs.SliceLaws.{length_write}
@@ -33,8 +34,6 @@ use Rattle.measure.specs.Measure.{starts_in, whole_values}
 use Rattle.semantics.specs.declared.Container.{Container}
 use Rattle.semantics.specs.declared.Counts.{Counts}
 use Rattle.semantics.specs.declared.Mark.{Mark}
-use Rattle.semantics.specs.declared.ParentEntry.{ParentEntry}
-use Rattle.semantics.specs.declared.ParentEntry.TheVariants.{New, Replaced}
 use Rattle.semantics.specs.declared.View.{View}
 use Rattle.semantics.specs.Record.{Storage, State, Scalars, Call, register, append, open_in, close, roll_back, uniqueness, set_mark, return_to, finish, scalar_of, table_size, good_floor, no_container, no_mark, countable, chained, slot_of, mark_at, marks_of, mark_at_start, mark_now, marks_hold, view_at, is_open, in_object, in_list, inner_size, inner_data, inner_entries, parent_entries, names_held, unique_now}
 use Rattle.semantics.specs.Damage.{over_used, unchained, bad_floor, fallen_ends, misplaced_inner, misplaced_parent, uncounted, orphaned, replacing, unrecorded, damaged_parent, misread_by, misread, damaged}
@@ -449,8 +448,8 @@ used_by_lem p q u = rw (p, q) u
 abbrev entries_for : List ℕ → ℕ → Bool → Bool → ℕ → ℕ → ℕ → List Entry → List ℕ
 entries_for l n any live id base o es = cond (any && not live) (set_entry l n (record { id = id; offset = o })) (cond live (set l (2 * (base + seek id es) + 1) o) l)
 
-abbrev parent_for : List ℕ → Bool → ℕ → ℕ → List Entry → ParentEntry
-parent_for l live id base es = cond live (Replaced id (entry_at l (base + seek id es)).offset) New
+abbrev parent_for : List ℕ → Bool → ℕ → ℕ → List Entry → Optional Entry
+parent_for l live id base es = cond live (Some (record { id = id; offset = (entry_at l (base + seek id es)).offset })) None
 
 -- in an object a name is live exactly where its id is found
 module _ (m : Machine) (k : Container) (ks : List Container) (n : Name) (p : InnerPlaced m (k ∷ ks)) (object : k.object ≡ true) where
@@ -520,7 +519,7 @@ module _ {l : List ℕ} {c : ℕ} (m : Machine) (u : Used l c m.entries) where
           let d : Entry = record { id = 0; offset = 0 } in
           let g : seek i es < c - k.entries = (let a = used_count u in omega (arith, length-drop k.entries m.entries)) in
           let q : get_or es (seek i es) d ≡ entry_at l (k.entries + seek i es) = ap (λ z. get_or z (seek i es) d) (sym (used_from u k.entries)) ∙ entry_of l k.entries (c - k.entries) (seek i es) d g in
-          sym (find_there i es d f ∙ ap (λ z. Replaced i z.offset) q)
+          sym (find_there i es d f ∙ ap (λ z. Some (record { id = i; offset = z.offset })) q)
       go false e = sym (find_new i es (not_found m k ks n p (not-false _ h) e))
 
 -- the lent list is as long as before
@@ -564,7 +563,7 @@ used_as p u = rw (← p) u
 log_law : {l : List ℕ} {n : ℕ} {us : List Entry} (u : Used l n us) (live : Bool) (marks id o : ℕ)
     → ((live && ltb 0 marks) && leb (room_for (length l)) n) ≡ false
     → Used (cond (live && ltb 0 marks) (set_entry l n (record { id = id; offset = o })) l) (cond (live && ltb 0 marks) (n + 1) n)
-    (us ++ record_of marks (cond live (Replaced id o) New))
+    (us ++ record_of marks (cond live (Some (record { id = id; offset = o })) None))
 unfolding record_of
 log_law {us = us} u false zero id o f = rw (append-nil us) u
 log_law {us = us} u false (suc m) id o f = rw (append-nil us) u
@@ -703,30 +702,30 @@ closed_entries true k fs u h = used_kept u k fs h
 closed_entries false k fs u h = used_cut u k h
 
 -- what `entries_back` leaves, of the parts that it reads
-abbrev back_for : List ℕ → ParentEntry → ℕ → List Entry → List ℕ
-back_for l New base es = l
-back_for l (Replaced id o) base es = set l (2 * (base + seek id es) + 1) o
+abbrev back_for : List ℕ → Optional Entry → ℕ → List Entry → List ℕ
+back_for l None base es = l
+back_for l (Some e) base es = set l (2 * (base + seek e.id es) + 1) e.offset
 
-back_for_lem : (v : View) (l : Storage) (p : ParentEntry) → entries_back v l p ≡ back_for l.entries p v.parent.entries (parent_entries v l)
-back_for_lem v l New = refl
-back_for_lem v l (Replaced id o) = refl
+back_for_lem : (v : View) (l : Storage) (p : Optional Entry) → entries_back v l p ≡ back_for l.entries p v.parent.entries (parent_entries v l)
+back_for_lem v l None = refl
+back_for_lem v l (Some e) = refl
 
 -- the parent's entries without the child's own; j is the parent's mark, k the child's
-back_law : {l : List ℕ} {n : ℕ} {es : List Entry} (u : Used l n es) (p : ParentEntry) (count size k : ℕ) (parent : Container) (js : List Container) → let j = parent.entries in
+back_law : {l : List ℕ} {n : ℕ} {es : List Entry} (u : Used l n es) (p : Optional Entry) (count size k : ℕ) (parent : Container) (js : List Container) → let j = parent.entries in
     j ≤ k → k ≤ n → orphaned p parent.object count size (take (k - j) (drop j es)) ≡ false
     → Used (back_for l p j (take (k - j) (drop j es))) (count_back parent.object k p) (undo (parent ∷ js) p (take k es))
 unfolding undo
-back_law {l = l} {es = es} u New count size k parent js g h f = go parent.object
+back_law {l = l} {es = es} u None count size k parent js g h f = go parent.object
   where
     go : (t : Bool) → Used l (cond t (k - 1) k) (cond t (take (length (take k es) - 1) (take k es)) (take k es))
     go true = let c = used_cut u k h in rw (used_count c) (used_cut c (k - 1) (omega arith))
     go false = used_cut u k h
-back_law {es = es} u (Replaced i o) count size k parent js g h f =
+back_law {es = es} u (Some e) count size k parent js g h f =
     let j = parent.entries in
     let c = used_cut u k h in
-    let e : take (k - j) (drop j es) ≡ drop j (take k es) = sym (used_between u j k h) ∙ used_from c j in
-    let x : ltb (seek i (take (k - j) (drop j es))) (length (take (k - j) (drop j es))) ≡ true = found parent.object _ (ltb size o) f in
-    rw e (used_moved c i o j g (ltb-true _ _ (rw e at x)))
+    let p : take (k - j) (drop j es) ≡ drop j (take k es) = sym (used_between u j k h) ∙ used_from c j in
+    let x : ltb (seek e.id (take (k - j) (drop j es))) (length (take (k - j) (drop j es))) ≡ true = found parent.object _ (ltb size e.offset) f in
+    rw p (used_moved c e.id e.offset j g (ltb-true _ _ (rw p at x)))
   where
     found : (object t u : Bool) → (not object || (not t || u)) ≡ false → t ≡ true
     found true true u h = refl
@@ -820,11 +819,11 @@ module _ {v : View} {l : Storage} {m : Machine} (s : Sees v l m) (o : Orderly m)
       let par : v.parent ≡ p = s.parent ∙ ap next_of e in
       (λ z. cond (below z) (undo_back (i.is z) (par z)) (i.is z).undo) ∙ go k.parent p.marks
     where
-      go : (x : ParentEntry) (n : ℕ) → cond (replacing x && ltb 0 n) (k.undo - 1) k.undo ≡ k.undo - length (record_of n x)
-      go New zero = omega arith
-      go New (suc n) = omega arith
-      go (Replaced a b) zero = omega arith
-      go (Replaced a b) (suc n) = let q : ltb 0 (suc n) ≡ true = lt-ltb 0 (suc n) (omega arith) in rw q (omega arith)
+      go : (x : Optional Entry) (n : ℕ) → cond (replacing x && ltb 0 n) (k.undo - 1) k.undo ≡ k.undo - length (record_of n x)
+      go None zero = omega arith
+      go None (suc n) = omega arith
+      go (Some e) zero = omega arith
+      go (Some e) (suc n) = let q : ltb 0 (suc n) ≡ true = lt-ltb 0 (suc n) (omega arith) in rw q (omega arith)
 
   roll_undos : (k : Container) (ks : List Container) → m.conts ≡ k ∷ ks
       → Used l.undo (cond (ltb 1 v.counts.depth) (undo_back v.inner v.parent) v.inner.undo)
@@ -933,9 +932,9 @@ put_size : (t : Bool) (k : ℕ) (fs : List Entry) (l : List ℕ) → length (con
 put_size true k fs l = length_put k fs l
 put_size false k fs l = refl
 
-back_size : (t : Bool) (p : ParentEntry) (v : View) (l : Storage) → length (cond t (entries_back v l p) l.entries) ≡ length l.entries
-back_size true New v l = refl
-back_size true (Replaced id o) v l = length-set l.entries (2 * (v.parent.entries + seek id (parent_entries v l)) + 1) o
+back_size : (t : Bool) (p : Optional Entry) (v : View) (l : Storage) → length (cond t (entries_back v l p) l.entries) ≡ length l.entries
+back_size true None v l = refl
+back_size true (Some e) v l = length-set l.entries (2 * (v.parent.entries + seek e.id (parent_entries v l)) + 1) e.offset
 back_size false p v l = refl
 
 -- a fresh builder represents the machine with nothing in it
@@ -1110,13 +1109,13 @@ module _ {s : State} {m : Machine} (r : Represents s m) (o : Orderly m) where
       as_they_were : stack_of 0 ns (d - 1) ≡ first_of 0 rest ∷ rest_of rest
       as_they_were = stack_first 0 ns (d - 1) (omega (arith, two)) ∙ (λ z. first_of 0 (elements_rest z) ∷ rest_of (elements_rest z))
 
-      new : (t : Bool) → stack_of 0 (cond t ns (set ns (d - 2) (view.siblings - 1))) (d - 1) ≡ less_of t New (first_of 0 rest) ∷ rest_of rest
+      new : (t : Bool) → stack_of 0 (cond t ns (set ns (d - 2) (view.siblings - 1))) (d - 1) ≡ less_of t None (first_of 0 rest) ∷ rest_of rest
       new true = as_they_were
       new false = stack_renew 0 ns (d - 1) (d - 2) (view.siblings - 1) (omega (arith, two)) (omega (arith, within)) ∙ (λ z. (seen.siblings z - 1) ∷ rest_of (elements_rest z))
 
-      back : (q : ParentEntry) → stack_of 0 (elements_back view q ns) (d - 1) ≡ less_of p.object q (first_of 0 rest) ∷ rest_of rest
-      back New = let par : view.parent ≡ p = seen.parent ∙ ap next_of e in (λ z. stack_of 0 (cond (par z).object ns (set ns (d - 2) (view.siblings - 1))) (d - 1)) ∙ new p.object
-      back (Replaced a b) = as_they_were
+      back : (q : Optional Entry) → stack_of 0 (elements_back view q ns) (d - 1) ≡ less_of p.object q (first_of 0 rest) ∷ rest_of rest
+      back None = let par : view.parent ≡ p = seen.parent ∙ ap next_of e in (λ z. stack_of 0 (cond (par z).object ns (set ns (d - 2) (view.siblings - 1))) (d - 1)) ∙ new p.object
+      back (Some e) = as_they_were
 
   -- and as many places as before
   either_size : (t : Bool) (xs ys : List ℕ) → length xs ≡ 64 → length ys ≡ 64 → length (cond t xs ys) ≡ 64
@@ -1129,9 +1128,9 @@ module _ {s : State} {m : Machine} (r : Represents s m) (o : Orderly m) where
   back_sizes : length (elements_after view no_mark roll_back s.builder.elements) ≡ 64
   back_sizes = either_size (ltb 1 s.builder.counts.depth) _ _ (go view.inner.parent) r.sizes
     where
-      go : (p : ParentEntry) → length (elements_back view p s.builder.elements) ≡ 64
-      go New = either_size view.parent.object _ _ r.sizes (length-set s.builder.elements (s.builder.counts.depth - 2) (view.siblings - 1) ∙ r.sizes)
-      go (Replaced id offset) = r.sizes
+      go : (p : Optional Entry) → length (elements_back view p s.builder.elements) ≡ 64
+      go None = either_size view.parent.object _ _ r.sizes (length-set s.builder.elements (s.builder.counts.depth - 2) (view.siblings - 1) ∙ r.sizes)
+      go (Some e) = r.sizes
 
   -- ---- marks
 

@@ -1,14 +1,25 @@
 -- Refusals and their numbers.
 use mathlib.Core.Path.{◌≡◌, refl, sym, ◌∙◌, ap}
-use mathlib.Core.Bool.{Bool, true, false, cond}
+use mathlib.Core.Bool.{true, cond}
 use Prim.Native.Nat.{ℕ}
 use native.Mathlib.Omega.{arith}
 use lib.Dec.{eqb}
-use Rattle.std.specs.Prelude.{Result, Ok, Err}
+use Rattle.std.specs.Prelude.{Err}
 use Rattle.encoding.specs.Rows.{listed, order}
+use Rattle.metadata.specs.declared.NameError.{NameError}
+use Rattle.metadata.specs.declared.NameError.TheVariants as name
+use Rattle.metadata.specs.declared.FinishError.{FinishError}
+use Rattle.metadata.specs.declared.FinishError.TheVariants as finish
+use Rattle.metadata.specs.Calls.{finish_number, told}
+use Rattle.container.specs.declared.CloseError.{CloseError}
+use Rattle.container.specs.declared.CloseError.TheVariants as close
+use Rattle.container.specs.Close.{closed_number}
+use Rattle.packed_decimal.specs.declared.read.PackedError.{PackedError}
+use Rattle.packed_decimal.specs.declared.read.PackedError.TheVariants as packed
+use Rattle.packed_decimal.specs.Calls.{read_answer}
 use Rattle.semantics.specs.declared.refusal.Refusal.{Refusal}
 use Rattle.semantics.specs.declared.refusal.Refusal.TheVariants as refusal
-use Rattle.semantics.specs.Refusal.{refusal_number, number_told}
+use Rattle.semantics.specs.Refusal.{close_refusal, finish_refusal, name_refusal, packed_refusal, refusal_number}
 
 -- a number's refusal, if it is one of a call of the writer
 refusal_of : ℕ → Refusal
@@ -109,3 +120,22 @@ number_some refusal.NotPacked e = omega arith
 number_some refusal.NoMark e = omega arith
 number_some refusal.UndoFull e = omega arith
 number_some refusal.BadFloor e = omega arith
+
+-- ---- the refusal of what a call rests on has its number
+
+pub name_number : (e : NameError) → (told (Err e)).number ≡ refusal_number (name_refusal e)
+name_number name.Damaged = refl
+name_number name.NotUtf8 = refl
+name_number name.Full = refl
+
+pub close_number : (e : CloseError) → closed_number (Err e) ≡ refusal_number (close_refusal e)
+close_number close.Damaged = refl
+close_number close.NoRoom = refl
+
+pub finish_refused : (e : FinishError) → finish_number (Err e) ≡ refusal_number (finish_refusal e)
+finish_refused finish.Damaged = refl
+finish_refused finish.NoRoom = refl
+
+pub packed_number : (e : PackedError) → (read_answer (Err e)).number ≡ refusal_number (packed_refusal e)
+packed_number packed.NotPacked = refl
+packed_number packed.OutOfRange = refl

@@ -8,12 +8,11 @@ use native.Mathlib.Omega.{arith}
 use lib.Dec.{eqb}
 use lib.ListN.{take, length, length-append}
 use lib.Seq.{take_at, take-take}
+use Rattle.std.specs.Prelude.{Option as Optional, Some, None}
 use Rattle.metadata.specs.Names.{Name, place}
 use Rattle.container.specs.declared.Entry.{Entry}
 use Rattle.container.specs.Undo.{restore, replay}
 use Rattle.container.proofs.UndoLaws.{replay_append}
-use Rattle.semantics.specs.declared.ParentEntry.{ParentEntry}
-use Rattle.semantics.specs.declared.ParentEntry.TheVariants.{New, Replaced}
 use Rattle.semantics.proofs.HistoryLaws.{Named}
 use Rattle.semantics.proofs.Machine.{put, find, note_in, link_in, record_of, unwound}
 use Rattle.semantics.proofs.LayerLaws.{entry, Origin, put_cases, put_origin}
@@ -37,9 +36,9 @@ take_replay n [] es = refl
 take_replay n (u ∷ us) es = take_restore n u (replay us es) ∙ ap (restore u) (take_replay n us es)
 
 -- what a record says of a replacement: the former offset
-abbrev Former : ParentEntry → ℕ → Type 0
-Former New q = ⊥
-Former (Replaced j o) q = o ≡ q
+abbrev Former : Optional Entry → ℕ → Type 0
+Former None q = ⊥
+Former (Some e) q = e.offset ≡ q
 
 -- THE REPLACEMENT: however much is cut, the record brings the entries before it again.
 restore_put : (n i o q : ℕ) (es : List Entry) → Former (find i es) q → restore (entry i q) (take n (put i o es)) ≡ take n es
@@ -48,7 +47,7 @@ restore_put n i o q [] f = absurd f
 restore_put zero i o q (e ∷ es) f = refl
 restore_put (suc n) i o q (e ∷ es) f = go (eqb e.id i) refl f (restore_put n i o q es)
   where
-    go : (t : Bool) → eqb e.id i ≡ t → Former (cond t (Replaced i e.offset) (find i es)) q
+    go : (t : Bool) → eqb e.id i ≡ t → Former (cond t (Some (entry i e.offset)) (find i es)) q
         → (Former (find i es) q → restore (entry i q) (take n (put i o es)) ≡ take n es)
         → restore (entry i q) (take (suc n) (cond t (entry e.id o ∷ es) (e ∷ put i o es))) ≡ e ∷ take n es
     go true p f h = rw p (ap (λ z. record { id = e.id; offset = z } ∷ take n es) (sym f))
@@ -125,7 +124,7 @@ behind_note ns false (some y) o n h x = absurd h
 behind_note ns false none o n {us = us} h x = rw (append-nil us) x
 behind_note ns true (some y) o n {later} {us} {earlier} h x = go (find (place y ns) later) refl (put_origin (place y ns) o later)
   where
-    go : (p : ParentEntry) → find (place y ns) later ≡ p → Origin (place y ns) o p later (put (place y ns) o later)
+    go : (p : Optional Entry) → find (place y ns) later ≡ p → Origin (place y ns) o p later (put (place y ns) o later)
         → Behind true (put (place y ns) o later) (us ++ record_of (suc n) p) earlier
-    go New e r = rw (append-nil us, r) (behind_last (entry (place y ns) o) x)
-    go (Replaced j q) e r = rw r.0 (behind_put (place y ns) o q (rw e refl) (put_longer (place y ns) o later) x)
+    go None e r = rw (append-nil us, r) (behind_last (entry (place y ns) o) x)
+    go (Some f) e r = rw r.0 (behind_put (place y ns) o f.offset (rw e refl) (put_longer (place y ns) o later) x)

@@ -10,6 +10,7 @@ use lib.Dec.{eqb, leb, ltb}
 use lib.ListN.{drop, get_or, length, length-append, length-drop, length-set, length-take, set, take}
 use lib.Seq.{drop_at, get_or-set_other, get_or-set_same, take_at}
 use borrow.Author.Tests.{le-leb, leb-true, lt-leb, lt-ltb, ltb-true, ltb-false, ne_eqb}
+use Rattle.std.specs.Prelude.{Some, None}
 use Rattle.encoding.specs.Slices.{write}
 use Rattle.encoding.proofs.PackedLaws.{Below}
 use Rattle.container.specs.declared.Entry.{Entry}
@@ -20,7 +21,6 @@ use Rattle.container.proofs.UndoLaws.{offset_other, entries_restored}
 use Rattle.semantics.specs.declared.Container.{Container}
 use Rattle.semantics.specs.declared.Counts.{Counts}
 use Rattle.semantics.specs.declared.Mark.{Mark}
-use Rattle.semantics.specs.declared.ParentEntry.TheVariants.{New, Replaced}
 use Rattle.semantics.specs.Record.{table_size, no_container, container_at, elements_at, under, countable, rising, chained, slot_of, mark_at, marks_of, mark_at_start, mark_now, not_above, falling, marks_hold}
 use Rattle.semantics.specs.Step.{with_marks, put_mark}
 use Rattle.semantics.proofs.Machine.{put, find, first_of, rest_of, Rising, Counting, NotAbove, Falling, AllFalling}
@@ -93,22 +93,22 @@ module _ (i o : ℕ) where
       go false h f = rw (f (omega arith))
 
 -- how it came about
-pub find_new : (i : ℕ) (es : List Entry) → seek i es ≡ length es → find i es ≡ New
+pub find_new : (i : ℕ) (es : List Entry) → seek i es ≡ length es → find i es ≡ None
 unfolding seek find
 find_new i [] h = refl
 find_new i (e ∷ es) h = go (eqb e.id i) h (find_new i es)
   where
-    go : (t : Bool) → cond t 0 (1 + seek i es) ≡ suc (length es) → (seek i es ≡ length es → find i es ≡ New) → cond t (Replaced i e.offset) (find i es) ≡ New
+    go : (t : Bool) → cond t 0 (1 + seek i es) ≡ suc (length es) → (seek i es ≡ length es → find i es ≡ None) → cond t (Some (record { id = i; offset = e.offset })) (find i es) ≡ None
     go true h f = absurd (omega arith)
     go false h f = f (omega arith)
 
-pub find_there : (i : ℕ) (es : List Entry) (d : Entry) → seek i es < length es → find i es ≡ Replaced i (get_or es (seek i es) d).offset
+pub find_there : (i : ℕ) (es : List Entry) (d : Entry) → seek i es < length es → find i es ≡ Some (record { id = i; offset = (get_or es (seek i es) d).offset })
 unfolding seek find
 find_there i [] d h = absurd (omega arith)
 find_there i (e ∷ es) d h = go (eqb e.id i) h (find_there i es d)
   where
-    go : (t : Bool) → cond t 0 (1 + seek i es) < suc (length es) → (seek i es < length es → find i es ≡ Replaced i (get_or es (seek i es) d).offset)
-        → cond t (Replaced i e.offset) (find i es) ≡ Replaced i (get_or (e ∷ es) (cond t 0 (1 + seek i es)) d).offset
+    go : (t : Bool) → cond t 0 (1 + seek i es) < suc (length es) → (seek i es < length es → find i es ≡ Some (record { id = i; offset = (get_or es (seek i es) d).offset }))
+        → cond t (Some (record { id = i; offset = e.offset })) (find i es) ≡ Some (record { id = i; offset = (get_or (e ∷ es) (cond t 0 (1 + seek i es)) d).offset })
     go true h f = refl
     go false h f = let q : 1 + seek i es ≡ suc (seek i es) = omega arith in rw q (f (omega arith))
 

@@ -1,5 +1,5 @@
 -- Number 1 of document 01's table, clause by clause.
-use Rattle.std.specs.Prelude.{Bool, true, false, cond, not, ◌&&◌, ◌||◌, List, ℕ, eqb, leb, ltb, length, take}
+use Rattle.std.specs.Prelude.{Bool, true, false, cond, not, ◌&&◌, ◌||◌, List, ℕ, eqb, leb, ltb, length, take, Option as Optional, Some, None}
 use Rattle.std.proofs.Math.Option.{Option, none, some}
 use Rattle.encoding.specs.Slices.{counted}
 use Rattle.metadata.specs.Names.{Name, exceeds, risen, field_names, text_size}
@@ -7,8 +7,6 @@ use Rattle.container.specs.Entries.{misplaced, room_for, seek}
 use Rattle.container.specs.declared.Entry.{Entry}
 use Rattle.measure.specs.Measure.{whole_values}
 use Rattle.semantics.specs.declared.Container.{Container}
-use Rattle.semantics.specs.declared.ParentEntry.{ParentEntry}
-use Rattle.semantics.specs.declared.ParentEntry.TheVariants.{New, Replaced}
 use Rattle.semantics.specs.declared.View.{View}
 use Rattle.semantics.specs.Record.{Storage, Call, register, append, open_in, close, roll_back, uniqueness, set_mark, return_to, finish, good_floor, countable, in_object, in_list, inner_size, inner_data, parent_size, inner_entries, parent_entries}
 
@@ -57,14 +55,14 @@ uncounted v l = in_list v && not (whole_values v.elements (inner_data v l))
 
 -- "a "new" child's parent has no entry, or a "replaced" child's parent is no object, has no entry of that id or has less
 -- data than the former offset"; A8, "a list's count stands for its entries": n is that count
-abbrev pub orphaned : ParentEntry → Bool → ℕ → ℕ → List Entry → Bool
-orphaned New object n size es = eqb (cond object (length es) n) 0
-orphaned (Replaced id offset) object n size es = not object || (not (ltb (seek id es) (length es)) || ltb size offset)
+abbrev pub orphaned : Optional Entry → Bool → ℕ → ℕ → List Entry → Bool
+orphaned None object n size es = eqb (cond object (length es) n) 0
+orphaned (Some former) object n size es = not object || (not (ltb (seek former.id es) (length es)) || ltb size former.offset)
 
 -- A9, "a replacing child under a mark": it took an undo record
-abbrev pub replacing : ParentEntry → Bool
-replacing New = false
-replacing (Replaced id offset) = true
+abbrev pub replacing : Optional Entry → Bool
+replacing None = false
+replacing (Some former) = true
 
 abbrev pub recorded_child : Container → Container → Bool
 recorded_child k parent = replacing k.parent && ltb 0 parent.marks

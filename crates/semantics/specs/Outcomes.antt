@@ -1,11 +1,10 @@
 -- Document 01's "Twelve marked outcomes".
-use Rattle.std.specs.Prelude.{Bool, true, false, ◌&&◌, ◌||◌, List, [], ◌∷◌, ◌++◌, ℕ, eqb, pos, negsuc, replicate}
+use Rattle.std.specs.Prelude.{Bool, true, false, ◌&&◌, ◌||◌, List, [], ◌∷◌, ◌++◌, ℕ, eqb, pos, negsuc, replicate, Some}
 use Rattle.std.proofs.Math.Option.{Option, none, some}
 use Rattle.value.specs.declared.variant.Variant.TheVariants as variant
 use Rattle.value.specs.declared.variant.VariantBytes.TheVariants as kind
 use Rattle.metadata.specs.Names.{Name, same}
 use Rattle.semantics.specs.declared.Container.{Container}
-use Rattle.semantics.specs.declared.ParentEntry.TheVariants.{Replaced}
 use Rattle.semantics.specs.Record.{storage_of, State, table_size, Scalars, fixed, bytes, Call, append, open_in, close, roll_back, finish}
 use Rattle.semantics.specs.Tree.{encode}
 use Rattle.semantics.specs.History.{Kept}
@@ -85,7 +84,7 @@ outcomes =
 -- a fresh builder of a uniqueness mark, at floor 1 (document 02, A10: "The outcomes .. stand at floor 1"), and storage that are not blank, and
 -- have room for the largest outcome and no more
 abbrev pub junk_container : Container
-junk_container = record { value = 9; names = 8; text = 7; entries = 6; undo = 3; parent = Replaced 5 4; object = true; unique = true; marks = 2 }
+junk_container = record { value = 9; names = 8; text = 7; entries = 6; undo = 3; parent = Some (record { id = 5; offset = 4 }); object = true; unique = true; marks = 2 }
 
 abbrev pub start : Bool → State
 start u =

@@ -1,5 +1,5 @@
 -- The builder's record over its lent storage, and the calls.
-use Rattle.std.specs.Prelude.{Bool, true, false, cond, not, ◌&&◌, ◌||◌, List, [], ◌∷◌, ◌++◌, ℕ, zero, suc, ◌+◌, ◌-◌, ◌*◌, eqb, leb, ltb, get_or, replicate, take}
+use Rattle.std.specs.Prelude.{Bool, true, false, cond, not, ◌&&◌, ◌||◌, List, [], ◌∷◌, ◌++◌, ℕ, zero, suc, ◌+◌, ◌-◌, ◌*◌, eqb, leb, ltb, get_or, replicate, take, None}
 use Rattle.std.proofs.Math.Option.{Option}
 use Rattle.value.specs.declared.variant.Variant.{Variant}
 use Rattle.value.specs.declared.variant.VariantBytes.{VariantBytes}
@@ -15,7 +15,6 @@ use Rattle.semantics.specs.declared.Builder.{Builder}
 use Rattle.semantics.specs.declared.Container.{Container}
 use Rattle.semantics.specs.declared.Counts.{Counts}
 use Rattle.semantics.specs.declared.Mark.{Mark}
-use Rattle.semantics.specs.declared.ParentEntry.TheVariants.{New}
 use Rattle.semantics.specs.declared.View.{View}
 
 -- the lent storage: value bytes, name bytes, the name table (each name's end), entry storage (two numbers an entry), undo storage (two numbers
@@ -81,7 +80,7 @@ scalar_of (uuid bs) = stored_uuid (sixteen bs)
 
 -- what stands where none is open
 abbrev pub no_container : Container
-no_container = record { value = 0; names = 0; text = 0; entries = 0; undo = 0; parent = New; object = false; unique = false; marks = 0 }
+no_container = record { value = 0; names = 0; text = 0; entries = 0; undo = 0; parent = None; object = false; unique = false; marks = 0 }
 
 -- the container at depth d, counted from 0
 abbrev pub container_at : List Container → ℕ → Container

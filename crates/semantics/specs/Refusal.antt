@@ -1,5 +1,13 @@
 -- The refusals of the writer's calls, by document 01's and 02's numbers.
 use Rattle.std.specs.Prelude.{ℕ, Result, Ok, Err}
+use Rattle.metadata.specs.declared.NameError.{NameError}
+use Rattle.metadata.specs.declared.NameError.TheVariants as name
+use Rattle.metadata.specs.declared.FinishError.{FinishError}
+use Rattle.metadata.specs.declared.FinishError.TheVariants as finish
+use Rattle.container.specs.declared.CloseError.{CloseError}
+use Rattle.container.specs.declared.CloseError.TheVariants as close
+use Rattle.packed_decimal.specs.declared.read.PackedError.{PackedError}
+use Rattle.packed_decimal.specs.declared.read.PackedError.TheVariants as packed
 use Rattle.semantics.specs.declared.refusal.Refusal.{Refusal}
 use Rattle.semantics.specs.declared.refusal.Refusal.TheVariants as refusal
 
@@ -31,3 +39,26 @@ refusal_number refusal.BadFloor = 24
 abbrev pub number_told : {A : Type 0} → Result A Refusal → ℕ
 number_told (Ok x) = 0
 number_told (Err r) = refusal_number r
+
+-- ---- the refusals of what a call rests on, each the row of its own number
+
+-- of a name's look-up
+abbrev pub name_refusal : NameError → Refusal
+name_refusal name.Damaged = refusal.Damaged
+name_refusal name.NotUtf8 = refusal.BadName
+name_refusal name.Full = refusal.NamesFull
+
+-- of a container's header
+abbrev pub close_refusal : CloseError → Refusal
+close_refusal close.Damaged = refusal.Damaged
+close_refusal close.NoRoom = refusal.NoRoom
+
+-- of the dictionary
+abbrev pub finish_refusal : FinishError → Refusal
+finish_refusal finish.Damaged = refusal.Damaged
+finish_refusal finish.NoRoom = refusal.OutputFull
+
+-- of packed decimal
+abbrev pub packed_refusal : PackedError → Refusal
+packed_refusal packed.NotPacked = refusal.NotPacked
+packed_refusal packed.OutOfRange = refusal.OutOfRange

@@ -1,5 +1,5 @@
 -- What a call leaves behind: every list whole.
-use Rattle.std.specs.Prelude.{Bool, true, cond, List, [], ℕ, ◌+◌, ◌-◌, ◌*◌, eqb, ltb, length, set}
+use Rattle.std.specs.Prelude.{Bool, true, cond, List, [], ℕ, ◌+◌, ◌-◌, ◌*◌, eqb, ltb, length, set, Option as Optional, Some, None}
 use Rattle.std.proofs.Math.Option.{Option, none, some}
 use Rattle.encoding.specs.Slices.{write}
 use Rattle.value.specs.Scalar.{scalar_bytes}
@@ -7,6 +7,7 @@ use Rattle.metadata.specs.Names.{Name, field_names, text_size}
 use Rattle.metadata.specs.Bytes.{dictionary}
 use Rattle.metadata.specs.Calls.{added, from_parts}
 use Rattle.metadata.specs.declared.MetadataBuilder.{MetadataBuilder}
+use Rattle.container.specs.declared.Entry.{Entry}
 use Rattle.container.specs.Entries.{entry_at, put_entries, seek, set_entry}
 use Rattle.container.specs.Sort.{sort}
 use Rattle.container.specs.Undo.{undone_from}
@@ -14,8 +15,6 @@ use Rattle.container.specs.Close.{fronted}
 use Rattle.semantics.specs.declared.Container.{Container}
 use Rattle.semantics.specs.declared.Counts.{Counts}
 use Rattle.semantics.specs.declared.Mark.{Mark}
-use Rattle.semantics.specs.declared.ParentEntry.{ParentEntry}
-use Rattle.semantics.specs.declared.ParentEntry.TheVariants.{New, Replaced}
 use Rattle.semantics.specs.declared.View.{View}
 use Rattle.semantics.specs.Record.{Storage, storage_of, State, Scalars, Call, register, append, open_in, close, roll_back, uniqueness, set_mark, return_to, finish, scalar_of, no_mark, slot_of, mark_at, mark_now, view_at, in_list, inner_size, inner_entries, parent_entries, names_held, unique_now}
 use Rattle.semantics.specs.Damage.{recorded_child}
@@ -60,8 +59,8 @@ abbrev pub former_offset : View → Storage → Option Name → ℕ
 former_offset v l nm = (entry_at l.entries (place_for v l nm)).offset
 
 -- "either "new field" or "replaced" with id and former offset"; the top container's, which is left free, is new
-abbrev pub parent_with : View → Storage → Option Name → ParentEntry
-parent_with v l nm = cond (live_under v l nm) (Replaced (id_for v l nm) (former_offset v l nm)) New
+abbrev pub parent_with : View → Storage → Option Name → Optional Entry
+parent_with v l nm = cond (live_under v l nm) (Some (record { id = id_for v l nm; offset = former_offset v l nm })) None
 
 -- document 02, A9: "Each replacement in an object with a mark takes one undo record", the id and the former offset; the newest is last
 abbrev pub undo_with : View → Storage → Option Name → List ℕ
@@ -151,13 +150,13 @@ closed v l =
     }
 
 -- "Rolling back such a child brings the former offset again; rolling back a new one .. takes its parent's last entry away"; a list's has none
-abbrev pub entries_back : View → Storage → ParentEntry → List ℕ
-entries_back v l New = l.entries
-entries_back v l (Replaced id offset) = set l.entries (2 * (v.parent.entries + seek id (parent_entries v l)) + 1) offset
+abbrev pub entries_back : View → Storage → Optional Entry → List ℕ
+entries_back v l None = l.entries
+entries_back v l (Some former) = set l.entries (2 * (v.parent.entries + seek former.id (parent_entries v l)) + 1) former.offset
 
-abbrev pub count_back : Bool → ℕ → ParentEntry → ℕ
-count_back object n New = cond object (n - 1) n
-count_back object n (Replaced id offset) = n
+abbrev pub count_back : Bool → ℕ → Optional Entry → ℕ
+count_back object n None = cond object (n - 1) n
+count_back object n (Some former) = n
 
 -- A9, a record is "free again after .. a roll back of the replacing child"
 abbrev pub undo_back : Container → Container → ℕ
@@ -307,9 +306,9 @@ abbrev pub elements_with : View → List ℕ → List ℕ
 elements_with v ns = cond (in_list v) (set ns (v.counts.depth - 1) (v.elements + 1)) ns
 
 -- a new child rolled back: its list has one element less
-abbrev pub elements_back : View → ParentEntry → List ℕ → List ℕ
-elements_back v New ns = cond v.parent.object ns (set ns (v.counts.depth - 2) (v.siblings - 1))
-elements_back v (Replaced id offset) ns = ns
+abbrev pub elements_back : View → Optional Entry → List ℕ → List ℕ
+elements_back v None ns = cond v.parent.object ns (set ns (v.counts.depth - 2) (v.siblings - 1))
+elements_back v (Some former) ns = ns
 
 -- left free: those of objects, which are 0 at their opening, and at a return as the mark says; and those beyond the depth, which are as they were
 abbrev pub elements_after : View → Mark → Call → List ℕ → List ℕ

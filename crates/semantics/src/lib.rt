@@ -21,22 +21,18 @@
 #![tactic(auto)]
 
 ghost use Rattle.std.specs.Prelude.{◌≡◌};
-ghost use Rattle.semantics.specs.Record.{good_floor, no_container};
+ghost use Rattle.semantics.specs.Record.{good_floor, mark_now, no_container};
 ghost use Rattle.semantics.specs.Run.{fresh_counts};
 
 mod refusal;
 
+use container::Entry;
 use metadata::MetadataBuilder;
 pub use refusal::Refusal;
 
-// How a container's entry in its parent came about, read when the container is rolled back.
-#[derive(Clone, Copy)]
-pub enum ParentEntry {
-    New,
-    Replaced { id: usize, offset: usize },
-}
-
-// An open container. The first five are its starting marks: the used counts at its opening. The last is how many marks are set in it.
+// An open container. The first five are its starting marks: the used counts at its opening. `parent` says how its entry in its parent came about,
+// which is read when it is rolled back: `None` of a new entry, else the id and the former offset. The last is how many marks are set in it.
+// Kept (1c; no plainer): `object` and `unique` are yes or no by themselves; all other fields stand for either kind.
 #[derive(Clone, Copy)]
 pub struct Container {
     pub value: usize,
@@ -44,13 +40,14 @@ pub struct Container {
     pub text: usize,
     pub entries: usize,
     pub undo: usize,
-    pub parent: ParentEntry,
+    pub parent: Option<Entry>,
     pub object: bool,
     pub unique: bool,
     pub marks: usize,
 }
 
 // A mark that is set: the used counts, the elements of the list that it is set in, and the uniqueness mark there, as they were then.
+// Kept (1c; no plainer): `unique` is the object's own yes or no, beside no value.
 #[derive(Clone, Copy)]
 pub struct Mark {
     pub value: usize,
@@ -64,6 +61,7 @@ pub struct Mark {
 
 // The used counts, the open containers' number, the dictionary's record, the uniqueness mark at the top, whether a finish was accepted, and
 // the floor: how many bytes offsets, ids and dictionary numbers take at least.
+// Kept (1c; no plainer): two marks that are yes or no; a builder's counts are there before and after its finish.
 #[derive(Clone, Copy)]
 pub struct Counts {
     pub value: usize,
@@ -88,6 +86,7 @@ pub struct Builder {
 // What a call sees of the record: the counts; the innermost open container and its elements; its parent and the parent's elements, the
 // innermost among them; and whether at most 64 are open, no starting mark falls from one of them to the next, no list with a child open
 // in it counts more than it can hold, and the marks set in each are at most 16 and in order.
+// Kept (1c; no plainer): `chain` answers one test; every call also reads the rest of a record that is damaged.
 #[derive(Clone, Copy)]
 pub struct View {
     pub counts: Counts,
@@ -99,6 +98,7 @@ pub struct View {
 }
 
 // No container: what stands for the innermost and for the parent where there is none.
+// Kept (1d; no plainer): the table's tests read the depth first and then these, as `innermost` and `parent_of` have it; an `Option` would be asked twice.
 pub fn no_container() -> Container
     ensures { result ≡ no_container }
 {
@@ -108,7 +108,7 @@ pub fn no_container() -> Container
         text: 0,
         entries: 0,
         undo: 0,
-        parent: ParentEntry::New,
+        parent: None,
         object: false,
         unique: false,
         marks: 0,
@@ -119,22 +119,38 @@ pub fn no_container() -> Container
 pub fn good_floor(floor: usize) -> bool
     ensures { result ≡ good_floor floor }
 {
-    (1 <= floor) & (floor <= 4)
+    (1..=4).contains(&floor)
 }
 
 // The counts of a fresh builder; children inherit the uniqueness mark.
+// Kept (1c; no plainer): the mark is the caller's yes or no, and is kept as it is given.
 pub fn fresh_counts(unique: bool, floor: usize) -> Counts
     ensures { result ≡ fresh_counts unique floor }
 {
-    let m = MetadataBuilder::new();
     Counts {
         value: 0,
         entries: 0,
         undo: 0,
         depth: 0,
-        dictionary: m,
-        unique: unique,
+        dictionary: MetadataBuilder::new(),
+        unique,
         finished: false,
-        floor: floor,
+        floor,
+    }
+}
+
+// The used counts as a mark would hold them now: in a container of n elements, with that uniqueness mark.
+// Kept (1c; no plainer): as in `Mark`.
+pub fn mark_now(c: Counts, n: usize, unique: bool) -> Mark
+    ensures { result ≡ mark_now c n unique }
+{
+    Mark {
+        value: c.value,
+        names: c.dictionary.num_field_names(),
+        text: c.dictionary.metadata_size(),
+        entries: c.entries,
+        undo: c.undo,
+        count: n,
+        unique,
     }
 }

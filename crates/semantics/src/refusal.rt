@@ -2,7 +2,13 @@
 ghost use Rattle.std.specs.Prelude.{◌≡◌};
 ghost use Rattle.semantics.specs.Refusal.{refusal_number};
 
+use calendar::date::OutOfCalendar;
+use container::CloseError;
+use metadata::{FinishError, NameError};
+use packed_decimal::read::PackedError;
+
 // The row that holds, first of all in the table's order; each is the row's number in the table.
+// Kept (1a; no plainer): each variant is a refusal, and none a success.
 #[derive(Clone, Copy, PartialEq, Eq, Debug)]
 pub enum Refusal {
     // The record or the lent storage was altered.
@@ -51,9 +57,75 @@ pub enum Refusal {
 
 impl Refusal {
     // Its number in the table.
+    // Kept (4; no plainer): the table's numbers are the discriminants, and this cast is all that reads them.
     pub fn number(self) -> u8
         ensures { result ≡ refusal_number self }
     {
         self as u8
+    }
+}
+
+impl From<NameError> for Refusal {
+    ghost use Rattle.semantics.specs.Refusal.{name_refusal};
+
+    ghost from_gives = { λ error e. e ≡ name_refusal error };
+
+    fn from(error: NameError) -> Self {
+        match error {
+            NameError::Damaged => Refusal::Damaged,
+            NameError::NotUtf8 => Refusal::BadName,
+            NameError::Full => Refusal::NamesFull,
+        }
+    }
+}
+
+impl From<CloseError> for Refusal {
+    ghost use Rattle.semantics.specs.Refusal.{close_refusal};
+
+    ghost from_gives = { λ error e. e ≡ close_refusal error };
+
+    fn from(error: CloseError) -> Self {
+        match error {
+            CloseError::Damaged => Refusal::Damaged,
+            CloseError::NoRoom => Refusal::NoRoom,
+        }
+    }
+}
+
+impl From<FinishError> for Refusal {
+    ghost use Rattle.semantics.specs.Refusal.{finish_refusal};
+
+    ghost from_gives = { λ error e. e ≡ finish_refusal error };
+
+    // Kept (2; no plainer): each error has variants of its own.
+    fn from(error: FinishError) -> Self {
+        match error {
+            FinishError::Damaged => Refusal::Damaged,
+            FinishError::NoRoom => Refusal::OutputFull,
+        }
+    }
+}
+
+impl From<PackedError> for Refusal {
+    ghost use Rattle.semantics.specs.Refusal.{packed_refusal};
+
+    ghost from_gives = { λ error e. e ≡ packed_refusal error };
+
+    // Kept (2; no plainer): each error has variants of its own.
+    fn from(error: PackedError) -> Self {
+        match error {
+            PackedError::NotPacked => Refusal::NotPacked,
+            PackedError::OutOfRange => Refusal::OutOfRange,
+        }
+    }
+}
+
+impl From<OutOfCalendar> for Refusal {
+    ghost use Rattle.semantics.specs.declared.refusal.Refusal.TheVariants as refusal;
+
+    ghost from_gives = { λ _ e. e ≡ refusal.OutOfCalendar };
+
+    fn from(_e: OutOfCalendar) -> Self {
+        Refusal::OutOfCalendar
     }
 }

@@ -116,7 +116,7 @@ unfolding accepted
 taken v e z = is_accepted v (eq-eqb (first (pair_rows never_used v)) 0 (sym e ∙ z))
 
 -- a refusal's number is above 0
-pub refusal : (r : Result (Unit {0}) ReadError) → ((x : Unit {0}) → r ≡ Ok x → ⊥) → number_of r ≡ 0 → ⊥
+pub refusal : {T : Type 0} (r : Result T ReadError) → ((x : T) → r ≡ Ok x → ⊥) → number_of r ≡ 0 → ⊥
 refusal (Ok x) h z = h x refl
 refusal (Err BadDictionary) h z = absurd (omega arith)
 refusal (Err BadValue) h z = absurd (omega arith)
@@ -263,16 +263,10 @@ pub small_bad : (n : ℕ) (out : List ℕ) → (leb 1 n && leb n 3) ≡ false �
 unfolding first
 small_bad n out e = record { number = rw e; written = refl; bytes = refl }
 
-pub too_short : (n : ℕ) → n < 1 → (leb 1 n && leb n 3) ≡ false
-too_short n h = rw (lt-leb 1 n h)
-
-pub too_long_lem : (n : ℕ) → 3 < n → (leb 1 n && leb n 3) ≡ false
-too_long_lem n h = rw (le-leb 1 n (omega arith), lt-leb n 3 h)
-
-pub small_no_room : (n s : ℕ) (out : List ℕ) → 1 ≤ n → n ≤ 3 → s ≡ length (file_of n) → length out < s → WritesSmall n out (Err NoRoom) out
+pub small_no_room : (n s : ℕ) (out : List ℕ) → (1 ≤ n) × (n ≤ 3) → s ≡ length (file_of n) → length out < s → WritesSmall n out (Err NoRoom) out
 unfolding first
-small_no_room n s out a b e h =
-    record { number = rw (le-leb 1 n a, le-leb n 3 b, lt-ltb (length out) (length (file_of n)) (omega arith)); written = refl; bytes = refl }
+small_no_room n s out a e h =
+    record { number = rw (le-leb 1 n a.0, le-leb n 3 a.1, lt-ltb (length out) (length (file_of n)) (omega arith)); written = refl; bytes = refl }
 
 -- the version byte, then the records
 start_clear : (out : List ℕ) → 1 ≤ length out → first (start_rows out) ≡ 0
@@ -304,11 +298,11 @@ module _ (n : ℕ) (out started : List ℕ) {r : Placed} (h : length (file_of n)
       let rs = records_bytes (map (record_of never_used) (values_of n)) in
       e ∙ (rw (started_is out started some s) (write_write out (1 ∷ []) rs 0 (omega (arith, file_length n))))
 
-pub small_written_lem : (n s : ℕ) (out after : List ℕ) → 1 ≤ n → n ≤ 3 → s ≡ length (file_of n) → s ≤ length out → after ≡ write 0 (file_of n) out
+pub small_written_lem : (n s : ℕ) (out after : List ℕ) → (1 ≤ n) × (n ≤ 3) → s ≡ length (file_of n) → s ≤ length out → after ≡ write 0 (file_of n) out
     → WritesSmall n out (Ok s) after
 unfolding first
-small_written_lem n s out after a b e h w =
-    record { number = rw (le-leb 1 n a, le-leb n 3 b, le-ltb (length out) (length (file_of n)) (omega arith)); written = e; bytes = w }
+small_written_lem n s out after a e h w =
+    record { number = rw (le-leb 1 n a.0, le-leb n 3 a.1, le-ltb (length out) (length (file_of n)) (omega arith)); written = e; bytes = w }
 
 -- the rows are in the table's order
 pub small_order : (n : ℕ) (out : List ℕ) → in_order order (small_rows n out) ≡ true

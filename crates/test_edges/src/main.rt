@@ -1,25 +1,15 @@
 // Document 01's named edges, one line a case: its name; the answers of its first calls and of its last, each 0 or the number of the
 // first call refused; names and value bytes then used; the first 16 of these bytes; where the last calls finish, the
-// dictionary. Calls are written as bytes: see `Edge::made`. Other edges are data of the program `test_replay`.
+// dictionary. Calls are written as bytes: see `made`. Other edges are data of the program `test_replay`.
 // The file `stdout` was not made by this program but by a model of document 01 written apart from this code.
 #![tactic(auto)]
 
 use builder::new;
-use builder_mut::{append_bytes, append_value, close, finish, new_list};
-use semantics::{Builder, Refusal};
+use builder_mut::VariantBuilder;
+use semantics::Refusal;
 use std::io;
 use std::io::Write;
-use value::variant::{Variant, VariantBytes};
-
-// The builder, and the storage that it is lent.
-#[derive(Drop)]
-struct Edge {
-    builder: Builder,
-    marks: [usize; 7168],
-    value: [u8; 1024],
-    entries: [usize; 512],
-    out: [u8; 3],
-}
+use value::variant::{OfKind, Variant, VariantBytes};
 
 fn main(rt: HostRuntime) -> io::Result<()> {
     let to = &mut io::writer(&rt);
@@ -47,88 +37,72 @@ fn depths<W: Write>(to: &mut W) -> io::Result<()> {
 }
 
 fn case<W: Write>(to: &mut W, label: &str, before: &[u8], last: &[u8]) -> io::Result<()> {
-    let mut edge = Edge::new();
-    let first = edge.run(before);
-    let then = first.and_then(|_| edge.run(last));
+    let mut b = VariantBuilder {
+        builder: &mut new(false),
+        marks: &mut [0; 7168],
+        value: &mut [0; 1024],
+        text: &mut [],
+        ends: &mut [],
+        entries: &mut [0; 512],
+        undo: &mut [],
+    };
+    let mut out = [0; 3];
+    let first = run(&mut b, before, &mut out);
+    let then = first.and_then(|_| run(&mut b, last, &mut out));
     write!(to, "{label}: {} ", number_of(first))?;
-    edge.line(to, then)
+    line(to, &b, then, &out)
 }
 
-fn number_of(answer: Result<usize, Refusal>) -> u8 {
+fn number_of(answer: Result<Option<usize>, Refusal>) -> u8 {
     answer.err().map_or(0, |e| e.number())
 }
 
-impl Edge {
-    fn new() -> Edge {
-        Edge {
-            builder: new(false),
-            marks: [0; 7168],
-            value: [0; 1024],
-            entries: [0; 512],
-            out: [0; 3],
-        }
+// The calls in order, up to the first one refused: what the last one answers.
+fn run(b: &mut VariantBuilder, calls: &[u8], out: &mut [u8]) -> Result<Option<usize>, Refusal> {
+    let mut written = None;
+    for c in calls {
+        written = made(b, *c, out)?;
     }
+    Ok(written)
+}
 
-    // The calls in order, up to the first one refused: the bytes that the last one wrote as its dictionary.
-    fn run(&mut self, calls: &[u8]) -> Result<usize, Refusal> {
-        let mut written = 0;
-        for c in calls {
-            written = self.made(*c)?;
-        }
-        Ok(written)
+// A list opened, a null, a close, a finish; `t` is a plain text of 63 bytes, any other byte one of 64. A finish answers the bytes of its dictionary.
+fn made(b: &mut VariantBuilder, c: u8, out: &mut [u8]) -> Result<Option<usize>, Refusal> {
+    match c {
+        b'[' => b.new_list(None)?,
+        b'n' => b.append(None, Variant::Null)?,
+        b']' => b.close()?,
+        b'.' => return b.finish(out).map(Some),
+        b't' => b.append(None, text(&[b'a'; 63]))?,
+        _ => b.append(None, text(&[b'a'; 64]))?,
     }
+    Ok(None)
+}
 
-    // A list opened, a null, a close, a finish; `t` is a plain text of 63 bytes, any other byte one of 64.
-    fn made(&mut self, c: u8) -> Result<usize, Refusal> {
-        let Edge {
-            builder: b,
-            marks,
-            value: v,
-            entries: es,
-            out,
-        } = self;
-        let x = Variant::Null;
-        match c {
-            b'[' => new_list(b, marks, v, &mut [], &mut [], es, &mut [], false, b"")?,
-            b'n' => append_value(b, marks, v, &mut [], &mut [], es, &mut [], false, b"", x)?,
-            b']' => close(b, marks, v, &[], &[], es, &[])?,
-            b'.' => return finish(b, marks, v, &[], &[], es, &[], out),
-            b't' => self.text(&[b'a'; 63])?,
-            _ => self.text(&[b'a'; 64])?,
-        }
-        Ok(0)
+fn text(bytes: &[u8]) -> OfKind<'_> {
+    OfKind {
+        kind: VariantBytes::Text,
+        bytes,
     }
+}
 
-    fn text(&mut self, t: &[u8]) -> Result<(), Refusal> {
-        append_bytes(
-            &mut self.builder,
-            &self.marks,
-            &mut self.value,
-            &mut [],
-            &mut [],
-            &mut self.entries,
-            &mut [],
-            false,
-            b"",
-            VariantBytes::Text,
-            t,
-        )
+fn line<W: Write>(
+    to: &mut W,
+    b: &VariantBuilder,
+    last: Result<Option<usize>, Refusal>,
+    out: &[u8],
+) -> io::Result<()> {
+    let counts = b.builder.counts;
+    let names = counts.dictionary.num_field_names();
+    let used = counts.value;
+    write!(to, "{}, {names} names, {used} bytes", number_of(last))?;
+    if 0 < used {
+        write!(to, ", ")?;
+        print::front(to, b.value, used)?;
     }
-
-    fn line<W: Write>(&self, to: &mut W, last: Result<usize, Refusal>) -> io::Result<()> {
-        let counts = self.builder.counts;
-        let names = counts.dictionary.num_field_names();
-        let used = counts.value;
-        write!(to, "{}, {names} names, {used} bytes", number_of(last))?;
-        if 0 < used {
-            write!(to, ", ")?;
-            print::front(to, &self.value, used)?;
-        }
-        let written = last.unwrap_or(0);
-        if 0 < written {
-            write!(to, ", dictionary ")?;
-            print::hex(to, &self.out, written)?;
-        }
-        writeln!(to)
+    if let Ok(Some(written)) = last {
+        write!(to, ", dictionary ")?;
+        print::hex(to, out, written)?;
     }
+    writeln!(to)
 }

@@ -4,53 +4,53 @@
 
 use container::{CloseError, Entry, Frame, close_object, put_entry, search_entries};
 use encoding::slices::write_slice;
-use list::close_list;
+use list::{ListFrame, close_list};
 use metadata::{MetadataBuilder, Names};
 use std::io;
 use std::io::Write;
 
 fn main(rt: HostRuntime) -> io::Result<()> {
     let to = &mut io::writer(&rt);
-    list(to, b"list of 0 nulls", 0)?;
-    list(to, b"list of 1 nulls", 1)?;
-    list(to, b"list of 255 nulls", 255)?;
-    list(to, b"list of 256 nulls", 256)?;
+    list(to, "list of 0 nulls", 0)?;
+    list(to, "list of 1 nulls", 1)?;
+    list(to, "list of 255 nulls", 255)?;
+    list(to, "list of 256 nulls", 256)?;
     lists(to)?;
     no_lists(to)?;
-    no_fields(to, b"object of no fields")?;
-    object(to, b"object of one null, id 0", 0)?;
-    object(to, b"object of one null, id 255", 255)?;
-    object(to, b"object of one null, id 256", 256)?;
-    object(to, b"object of one null, id 65536", 65536)?;
-    two_fields(to, b"object of b = int8 1, a = int8 2")
+    no_fields(to, "object of no fields")?;
+    object(to, "object of one null, id 0", 0)?;
+    object(to, "object of one null, id 255", 255)?;
+    object(to, "object of one null, id 256", 256)?;
+    object(to, "object of one null, id 65536", 65536)?;
+    two_fields(to, "object of b = int8 1, a = int8 2")
 }
 
 // Lists of other values.
 fn lists<W: Write>(to: &mut W) -> io::Result<()> {
     values(
         to,
-        b"list of a null, int8 7, text ab",
+        "list of a null, int8 7, text ab",
         b"\x00\x0c\x07\x09ab",
         3,
         1,
     )?;
     values(
         to,
-        b"list of a list, an object, a large list",
+        "list of a list, an object, a large list",
         b"\x03\x01\x00\x01\x00\x02\x01\x00\x00\x01\x00\x13\x01\x00\x00\x00\x00\x01\x00",
         3,
         1,
     )?;
-    values(to, b"list of one null, floor 3", b"\x00", 1, 3)
+    values(to, "list of one null, floor 3", b"\x00", 1, 3)
 }
 
 // Data that is not as many values as counted.
 fn no_lists<W: Write>(to: &mut W) -> io::Result<()> {
-    values(to, b"list of a type code 21", b"\x54", 1, 1)?;
-    values(to, b"list of two nulls, counted one", b"\x00\x00", 1, 1)?;
+    values(to, "list of a type code 21", b"\x54", 1, 1)?;
+    values(to, "list of two nulls, counted one", b"\x00\x00", 1, 1)?;
     values(
         to,
-        b"list of a count that overflows",
+        "list of a count that overflows",
         b"\x42\xff\xff\xff\xff\x00",
         1,
         1,
@@ -58,16 +58,23 @@ fn no_lists<W: Write>(to: &mut W) -> io::Result<()> {
 }
 
 // n nulls: each is one byte, 00.
-fn list<W: Write>(to: &mut W, label: &[u8], n: usize) -> io::Result<()> {
+fn list<W: Write>(to: &mut W, label: &str, n: usize) -> io::Result<()> {
     let mut value = [0u8; 1024];
-    let closed = close_list(0, n, n, 1, &mut value);
+    let f = ListFrame {
+        start: 0,
+        used: n,
+        count: n,
+        floor: 1,
+    };
+    let closed = close_list(f, &mut value);
     line(to, label, closed, n, &value)
 }
 
 // A list with this data and count.
+// Kept (6; no plainer): how many values the data is said to be, which need not be so many.
 fn values<W: Write>(
     to: &mut W,
-    label: &[u8],
+    label: &str,
     data: &[u8],
     count: usize,
     floor: usize,
@@ -75,7 +82,13 @@ fn values<W: Write>(
     let mut value = [0u8; 64];
     let _ = write_slice(&mut value, 0, data);
     let size = data.len();
-    let closed = close_list(0, size, count, floor, &mut value);
+    let f = ListFrame {
+        start: 0,
+        used: size,
+        count,
+        floor,
+    };
+    let closed = close_list(f, &mut value);
     line(to, label, closed, size, &value)
 }
 
@@ -87,7 +100,7 @@ fn no_names() -> Names<'static> {
     }
 }
 
-fn no_fields<W: Write>(to: &mut W, label: &[u8]) -> io::Result<()> {
+fn no_fields<W: Write>(to: &mut W, label: &str) -> io::Result<()> {
     let mut value = [0u8; 64];
     let mut entries = [0usize; 4];
     let most = largest(&entries, 0);
@@ -95,7 +108,7 @@ fn no_fields<W: Write>(to: &mut W, label: &[u8]) -> io::Result<()> {
     line(to, label, closed, 0, &value)
 }
 
-fn object<W: Write>(to: &mut W, label: &[u8], id: usize) -> io::Result<()> {
+fn object<W: Write>(to: &mut W, label: &str, id: usize) -> io::Result<()> {
     let mut value = [0u8; 64];
     let mut entries = [0usize; 4];
     let _ = put_entry(&mut entries, 0, Entry { id, offset: 0 });
@@ -104,18 +117,19 @@ fn object<W: Write>(to: &mut W, label: &[u8], id: usize) -> io::Result<()> {
     line(to, label, closed, 1, &value)
 }
 
-fn two_fields<W: Write>(to: &mut W, label: &[u8]) -> io::Result<()> {
+fn two_fields<W: Write>(to: &mut W, label: &str) -> io::Result<()> {
     let mut text = [0u8; 2];
     let mut ends = [0usize; 2];
-    let b = with(MetadataBuilder::new(), &mut text, &mut ends, b"b");
-    let ba = with(b, &mut text, &mut ends, b"a");
+    let mut counts = MetadataBuilder::new();
+    let _ = counts.add_field_name(&mut text, &mut ends, b"b");
+    let _ = counts.add_field_name(&mut text, &mut ends, b"a");
     let mut value = [0u8; 64];
     let mut entries = [0usize; 4];
     let _ = put_entry(&mut entries, 0, Entry { id: 0, offset: 0 });
     let _ = put_entry(&mut entries, 1, Entry { id: 1, offset: 2 });
     let most = largest(&entries, 2);
     let names = Names {
-        counts: ba,
+        counts,
         text: &text,
         ends: &ends,
     };
@@ -123,13 +137,8 @@ fn two_fields<W: Write>(to: &mut W, label: &[u8]) -> io::Result<()> {
     line(to, label, closed, 4, &value)
 }
 
-fn with(m: MetadataBuilder, text: &mut [u8], ends: &mut [usize], name: &[u8]) -> MetadataBuilder {
-    let mut next = m;
-    let _ = next.add_field_name(text, ends, name);
-    next
-}
-
 // The largest id of the first n entries.
+// Kept (6; no plainer): the call takes the entries by their numbers in the slice that is lent.
 fn largest(entries: &[usize], n: usize) -> usize {
     search_entries(entries, 0, n, true, 0, 0, 0).largest
 }
@@ -145,36 +154,22 @@ fn frame(used: usize, to: usize) -> Frame {
 }
 
 // The bytes before `size` bytes of data.
+// Kept (6; no plainer): `value` is all that was lent; how much of it is the header comes of both sizes, where the call is carried out.
 fn line<W: Write>(
     to: &mut W,
-    label: &[u8],
+    label: &str,
     closed: Result<usize, CloseError>,
     size: usize,
     value: &[u8],
 ) -> io::Result<()> {
-    print::text(to, label)?;
     match closed {
         Ok(used) => {
-            print::text(to, b": ")?;
-            let n = saturating_sub(used, size);
-            print::decimal(to, n as u64)?;
-            print::text(to, b" bytes, ")?;
+            let n = used.saturating_sub(size);
+            write!(to, "{label}: {n} bytes, ")?;
             print::front(to, value, n)?;
-            print::text(to, b"\n")?;
+            writeln!(to)
         }
-        Err(CloseError::Damaged) => {
-            print::text(to, b" refused 1\n")?;
-        }
-        Err(CloseError::NoRoom) => {
-            print::text(to, b" refused 14\n")?;
-        }
+        Err(CloseError::Damaged) => writeln!(to, "{label} refused 1"),
+        Err(CloseError::NoRoom) => writeln!(to, "{label} refused 14"),
     }
-    Ok(())
-}
-
-fn saturating_sub(a: usize, b: usize) -> usize {
-    if a < b {
-        return 0;
-    }
-    a - b
 }

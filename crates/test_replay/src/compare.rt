@@ -1,5 +1,5 @@
 // What was expected against what came, and the counts.
-use crate::parse::number;
+use crate::parse::words;
 use semantics::Counts;
 use std::io::Write;
 use std::{fmt, io};
@@ -37,32 +37,28 @@ impl Tally {
 
     // A number: 0 for a call carried out, or the refusal's.
     pub fn answered<W: Write>(&mut self, to: &mut W, expected: u8, got: u8) -> io::Result<()> {
-        self.same(to, "number", expected as usize, got as usize)
+        self.same(to, "number", u64::from(expected), u64::from(got))
     }
 
     // The six used counts, each expected in eight bytes.
     pub fn used<W: Write>(&mut self, to: &mut W, c: Counts, expected: &[u8]) -> io::Result<()> {
         let m = c.dictionary;
-        let names = m.num_field_names();
-        self.same(to, "used value bytes", number(expected, 0), c.value)?;
-        self.same(to, "used names", number(expected, 8), names)?;
-        self.same(
-            to,
-            "used name bytes",
-            number(expected, 16),
-            m.metadata_size(),
-        )?;
-        self.same(to, "used entries", number(expected, 24), c.entries)?;
-        self.same(to, "open containers", number(expected, 32), c.depth)?;
-        self.same(to, "used undo records", number(expected, 40), c.undo)
+        let [value, names, text, entries, depth, undo] = words::<6>(expected);
+        self.same(to, "used value bytes", value, c.value as u64)?;
+        self.same(to, "used names", names, m.num_field_names() as u64)?;
+        self.same(to, "used name bytes", text, m.metadata_size() as u64)?;
+        self.same(to, "used entries", entries, c.entries as u64)?;
+        self.same(to, "open containers", depth, c.depth as u64)?;
+        self.same(to, "used undo records", undo, c.undo as u64)
     }
 
+    // Kept (4; no plainer): a difference is counted and told, a line each.
     fn same<W: Write>(
         &mut self,
         to: &mut W,
         what: &str,
-        expected: usize,
-        got: usize,
+        expected: u64,
+        got: u64,
     ) -> io::Result<()> {
         if expected == got {
             return Ok(());
@@ -72,16 +68,17 @@ impl Tally {
         writeln!(to, "{place}: {what} expected {expected}, got {got}")
     }
 
-    // The first n bytes.
+    // The bytes that came, where the count of them that a call answered lies in what it was lent.
     pub fn compared<W: Write>(
         &mut self,
         to: &mut W,
         what: &str,
-        bytes: &[u8],
-        n: usize,
         expected: &[u8],
+        got: Option<&[u8]>,
     ) -> io::Result<()> {
-        if n <= bytes.len() && &bytes[..n] == expected {
+        if let Some(bytes) = got
+            && bytes == expected
+        {
             return Ok(());
         }
         self.differences = self.differences.saturating_add(1);
@@ -89,7 +86,8 @@ impl Tally {
         write!(to, "{place}: {what} expected ")?;
         print::hex(to, expected, expected.len())?;
         write!(to, ", got ")?;
-        print::hex(to, bytes, n)?;
+        let bytes = got.unwrap_or(b"");
+        print::hex(to, bytes, bytes.len())?;
         writeln!(to)
     }
 }

@@ -1,5 +1,7 @@
 // The sample, from standard input: bytes in hexadecimal, in fields with a comma or a line end behind each.
-use crate::parse::array;
+// Kept (1b; project rule): the number that is expected of a call stands in the input, as the table of refusals numbers it.
+// Kept (1c; no plainer): a byte of the input each, one the argument of the maker, the other beside bytes that a finish or a dump reads otherwise.
+use crate::parse::words;
 use std::io;
 use std::io::{ErrorKind, Read};
 
@@ -46,47 +48,49 @@ pub struct Header {
 // How many scripts there are.
 pub fn read_count<R: Read>(from: &mut R) -> Result<usize, Fail> {
     let mut b = [0u8; 2];
-    field(from, &mut b, 2)?;
-    Ok(two(b[0], b[1]))
+    field(from, &mut b)?;
+    Ok(size(b))
 }
 
 pub fn read_start<R: Read>(from: &mut R) -> Result<Start, Fail> {
     let mut b = [0u8; 22];
-    field(from, &mut b, 22)?;
+    field(from, &mut b)?;
+    let [floor] = words::<1>(&b[14..]);
     Ok(Start {
         unique: b[0] == 1,
         number: b[1],
-        lines: two(b[2], b[3]),
-        value: two(b[4], b[5]),
-        text: two(b[6], b[7]),
-        ends: two(b[8], b[9]),
-        entries: two(b[10], b[11]),
-        undo: two(b[12], b[13]),
-        floor: u64::from_be_bytes(array::<8>(&b, 14)) as usize,
+        lines: size([b[2], b[3]]),
+        value: size([b[4], b[5]]),
+        text: size([b[6], b[7]]),
+        ends: size([b[8], b[9]]),
+        entries: size([b[10], b[11]]),
+        undo: size([b[12], b[13]]),
+        floor: floor as usize,
     })
 }
 
 pub fn read_header<R: Read>(from: &mut R) -> Result<Header, Fail> {
     let mut b = [0u8; 10];
-    field(from, &mut b, 10)?;
+    field(from, &mut b)?;
     Ok(Header {
         call: b[0],
         argument: b[1],
         number: b[2],
         named: b[3] == 1,
-        size: two(b[4], b[5]),
-        name: two(b[6], b[7]),
-        operand: two(b[8], b[9]),
+        size: size([b[4], b[5]]),
+        name: size([b[6], b[7]]),
+        operand: size([b[8], b[9]]),
     })
 }
 
-fn two(high: u8, low: u8) -> usize {
-    u16::from_be_bytes([high, low]) as usize
+// Two bytes, highest first.
+fn size(bytes: [u8; 2]) -> usize {
+    u16::from_be_bytes(bytes) as usize
 }
 
-// The next n bytes, into the front of `out`, with a comma or a line end behind them.
-pub fn field<R: Read>(from: &mut R, out: &mut [u8], n: usize) -> Result<(), Fail> {
-    for b in out.get_mut(..n).ok_or(Fail::Malformed)? {
+// The next bytes, as many as `out` has, with a comma or a line end behind them.
+pub fn field<R: Read>(from: &mut R, out: &mut [u8]) -> Result<(), Fail> {
+    for b in out {
         *b = byte(from)?;
     }
     match next(from)? {

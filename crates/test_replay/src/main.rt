@@ -1,4 +1,4 @@
-// Scripts with their answers, run by the thin calls, which make the calls by value: a line for each difference, and the counts. Two
+// Scripts with their answers, run by the calls of builder_mut, which make the calls by value: a line for each difference, and the counts. Two
 // sets: a sample with the answers that the real Rust gave, and edges with those of a model of document 01 written apart from this
 // code, some over a record or storage altered between the calls. Standard input is both as tools/replay.py writes them; that script
 // says what its bytes are.
@@ -12,6 +12,8 @@ mod parse;
 mod poke;
 
 use builder::with_floor;
+use builder_mut::VariantBuilder;
+use calls::make;
 use compare::Tally;
 use input::{Fail, Header, Start, field, read_count, read_header, read_start};
 use marks::NUMBERS;
@@ -32,23 +34,19 @@ struct Storage {
     marks: [usize; NUMBERS],
 }
 
-// What a script is lent of it.
-#[derive(Drop)]
-struct Lent<'a> {
-    value: &'a mut [u8],
-    text: &'a mut [u8],
-    ends: &'a mut [usize],
-    entries: &'a mut [usize],
-    undo: &'a mut [usize],
-    marks: &'a mut [usize; NUMBERS],
-}
-
 // A line, with its name and its operand.
 #[derive(Clone, Copy)]
 struct Given<'a> {
     header: Header,
     name: &'a [u8],
     operand: &'a [u8],
+}
+
+impl<'a> Given<'a> {
+    // The name of the value that a call enters, where one is given.
+    fn field_name(self) -> Option<&'a [u8]> {
+        self.header.named.then_some(self.name)
+    }
 }
 
 fn main(rt: HostRuntime) -> io::Result<()> {
@@ -75,6 +73,7 @@ fn main(rt: HostRuntime) -> io::Result<()> {
     )
 }
 
+// Kept (3; no plainer): how many scripts follow is the input's first number; nothing is walked by it.
 fn scripts<R: Read, W: Write>(
     from: &mut R,
     to: &mut W,
@@ -95,16 +94,28 @@ fn script<R: Read, W: Write>(
 ) -> Result<(), Fail> {
     let s = read_start(from)?;
     let mut b = begun(to, tally, s)?;
-    let mut lent = Lent {
+    let mut v = VariantBuilder {
+        marks: &mut storage.marks,
         value: storage.value.get_mut(..s.value).ok_or(Fail::Malformed)?,
         text: storage.text.get_mut(..s.text).ok_or(Fail::Malformed)?,
         ends: storage.ends.get_mut(..s.ends).ok_or(Fail::Malformed)?,
         entries: storage.entries.get_mut(..s.entries).ok_or(Fail::Malformed)?,
         undo: storage.undo.get_mut(..s.undo).ok_or(Fail::Malformed)?,
-        marks: &mut storage.marks,
+        builder: &mut b,
     };
-    for _ in 0..s.lines {
-        next(from, to, tally, &mut b, &mut lent)?;
+    lines(from, to, tally, &mut v, s.lines)
+}
+
+// Kept (3; no plainer): how many lines follow is a number of the script's first; each is read as it comes.
+fn lines<R: Read, W: Write>(
+    from: &mut R,
+    to: &mut W,
+    tally: &mut Tally,
+    v: &mut VariantBuilder,
+    count: usize,
+) -> Result<(), Fail> {
+    for _ in 0..count {
+        next(from, to, tally, v)?;
     }
     Ok(())
 }
@@ -124,27 +135,27 @@ fn next<R: Read, W: Write>(
     from: &mut R,
     to: &mut W,
     tally: &mut Tally,
-    b: &mut Builder,
-    lent: &mut Lent,
+    v: &mut VariantBuilder,
 ) -> Result<(), Fail> {
-    let mut name = [0u8; 512];
-    let mut operand = [0u8; 2048];
+    let mut names = [0u8; 512];
+    let mut operands = [0u8; 2048];
     let header = read_header(from)?;
-    field(from, &mut name, header.name)?;
-    field(from, &mut operand, header.operand)?;
+    let name = names.get_mut(..header.name).ok_or(Fail::Malformed)?;
+    field(from, name)?;
+    let operand = operands.get_mut(..header.operand).ok_or(Fail::Malformed)?;
+    field(from, operand)?;
     let given = Given {
         header,
-        name: name.get(..header.name).ok_or(Fail::Malformed)?,
-        operand: operand.get(..header.operand).ok_or(Fail::Malformed)?,
+        name,
+        operand,
     };
     match line_of(header, given.operand)? {
-        Line::Poke => {
+        Line::Poke(poke) => {
             tally.pass();
-            lent.overwrite(header, given.operand);
-            alter(b, header, given.operand);
+            alter(v, poke);
         }
-        Line::Dump => looked(to, tally, *b, lent.value, given)?,
-        Line::Call(call) => lent.called(to, tally, b, call, given)?,
+        Line::Dump => looked(to, tally, v, given)?,
+        Line::Call(call) => called(to, tally, v, call, given)?,
     }
     Ok(())
 }
@@ -153,41 +164,38 @@ fn next<R: Read, W: Write>(
 fn looked<W: Write>(
     to: &mut W,
     tally: &mut Tally,
-    b: Builder,
-    value: &[u8],
+    v: &VariantBuilder,
     given: Given,
 ) -> io::Result<()> {
     tally.pass();
-    tally.used(to, b.counts, given.name)?;
+    let counts = v.builder.counts;
+    tally.used(to, counts, given.name)?;
     if given.header.argument == 0 {
         return Ok(());
     }
-    tally.compared(to, "value", value, b.counts.value, given.operand)
+    tally.compared(to, "value", given.operand, v.value.get(..counts.value))
 }
 
-impl Lent<'_> {
-    // Of a finish that must be carried out, the expected dictionary stands in the name's place, and the expected value in the operand's.
-    fn called<W: Write>(
-        &mut self,
-        to: &mut W,
-        tally: &mut Tally,
-        b: &mut Builder,
-        call: Call,
-        given: Given,
-    ) -> io::Result<()> {
-        let mut space = [0xEEu8; 1024];
-        let out = &mut space[..given.header.size.min(1024)];
-        let finish = matches!(call, Call::Finish);
-        let (number, written) = match self.make(b, call, given, out) {
-            Ok(written) => (0, written),
-            Err(e) => (e.number(), 0),
-        };
-        tally.count();
-        tally.answered(to, given.header.number, number)?;
-        if finish && given.header.number == 0 {
-            tally.compared(to, "value", self.value, b.counts.value, given.operand)?;
-            tally.compared(to, "dictionary", out, written, given.name)?;
-        }
-        Ok(())
+// Of a finish that must be carried out, the expected dictionary stands in the name's place, and the expected value in the operand's.
+fn called<W: Write>(
+    to: &mut W,
+    tally: &mut Tally,
+    v: &mut VariantBuilder,
+    call: Call,
+    given: Given,
+) -> io::Result<()> {
+    let mut space = [0xEEu8; 1024];
+    let out = &mut space[..given.header.size.min(1024)];
+    let made = make(v, call, given, out);
+    let number = made.err().map_or(0, |e| e.number());
+    tally.count();
+    tally.answered(to, given.header.number, number)?;
+    if let Ok(Some(written)) = made
+        && given.header.number == 0
+    {
+        let used = v.builder.counts.value;
+        tally.compared(to, "value", given.operand, v.value.get(..used))?;
+        tally.compared(to, "dictionary", given.name, out.get(..written))?;
     }
+    Ok(())
 }

@@ -1,12 +1,13 @@
 // One line's call. The numbers are those of the input, which tools/replay.py names.
 use crate::input::{Fail, Header};
+use crate::poke::{Poke, poke_of};
 use calendar::civil::Civil;
 use calendar::date::Date;
 use value::decimal::{VariantDecimal4, VariantDecimal8, VariantDecimal16};
 use value::variant::{Variant, VariantBytes};
 
-pub enum Line {
-    Poke,
+pub enum Line<'a> {
+    Poke(Poke<'a>),
     Dump,
     Call(Call),
 }
@@ -35,7 +36,7 @@ pub enum Own {
     Packed(u8),
 }
 
-pub fn line_of(h: Header, operand: &[u8]) -> Result<Line, Fail> {
+pub fn line_of(h: Header, operand: &[u8]) -> Result<Line<'_>, Fail> {
     let argument = h.argument;
     let call = match h.call {
         1 => Call::AddFieldName,
@@ -45,15 +46,18 @@ pub fn line_of(h: Header, operand: &[u8]) -> Result<Line, Fail> {
         5 => Call::Rollback,
         6 => Call::WithValidateUniqueFields(argument == 1),
         7 => Call::Append(Own::Bytes(kind(argument))),
-        8 => Call::Append(Own::Uuid(array(operand, 0))),
+        8 => Call::Append(Own::Uuid(array(operand))),
         9 => Call::Append(Own::Value(scalar(argument, operand))),
         10 => Call::Finish,
-        11 => return Ok(Line::Poke),
+        11 => return Ok(Line::Poke(poke_of(h, operand)?)),
         12 => return Ok(Line::Dump),
         13 => Call::Append(Own::Civil(civil(argument, operand))),
         14 => Call::Append(Own::Packed(argument)),
         15 => Call::Mark,
-        16 => Call::ReturnTo(number(operand, 0)),
+        16 => {
+            let [mark] = words::<1>(operand);
+            Call::ReturnTo(mark as usize)
+        }
         _ => return Err(Fail::Malformed),
     };
     Ok(Line::Call(call))
@@ -71,7 +75,7 @@ fn kind(code: u8) -> VariantBytes {
 // The scalars of fixed size: an integer of 16 bytes, highest first, and a scale. A number that its type does not hold is taken as
 // 0.
 fn scalar(code: u8, operand: &[u8]) -> Variant {
-    let n = word(operand, 8);
+    let [_, n] = words::<2>(operand);
     let x = n.cast_signed();
     match code {
         0 => Variant::Null,
@@ -100,10 +104,10 @@ fn moment(code: u8, x: i64) -> Variant {
 }
 
 fn decimal(code: u8, operand: &[u8]) -> Variant {
-    let high = word(operand, 0).cast_signed();
-    let low = word(operand, 8);
+    let [high, low] = words::<2>(operand);
+    let high = high.cast_signed();
     let integer = low.cast_signed();
-    let [scale] = array::<1>(operand, 16);
+    let scale = operand.get(16).copied().unwrap_or(0);
     match code {
         15 => Variant::Decimal4(VariantDecimal4 {
             integer: i32::try_from(integer).unwrap_or(0),
@@ -116,12 +120,8 @@ fn decimal(code: u8, operand: &[u8]) -> Variant {
 
 // A date, or a date and a time: four numbers of eight bytes each.
 fn civil(code: u8, operand: &[u8]) -> Civil {
-    let date = Date {
-        year: word(operand, 0).cast_signed(),
-        month: word(operand, 8).cast_signed(),
-        day: word(operand, 16).cast_signed(),
-    };
-    let time = word(operand, 24).cast_signed();
+    let [year, month, day, time] = words::<4>(operand).map(u64::cast_signed);
+    let date = Date { year, month, day };
     match code {
         0 => Civil::Date(date),
         1 => Civil::TimestampMicros(date, time),
@@ -129,20 +129,22 @@ fn civil(code: u8, operand: &[u8]) -> Civil {
     }
 }
 
-// Eight bytes, highest first.
-fn word(operand: &[u8], from: usize) -> u64 {
-    u64::from_be_bytes(array(operand, from))
+// The first N numbers, of eight bytes each, highest first; 0 where there is none.
+// Kept (1d; no plainer): the input leaves out what a line does not take, and missing bytes count as 0.
+pub fn words<const N: usize>(bytes: &[u8]) -> [u64; N] {
+    let mut numbers = [0; N];
+    for (n, eight) in numbers.iter_mut().zip(bytes.chunks(8)) {
+        *n = u64::from_be_bytes(array(eight));
+    }
+    numbers
 }
 
-pub fn number(operand: &[u8], from: usize) -> usize {
-    word(operand, from) as usize
-}
-
-// The next N bytes, 0 where there is none.
-pub fn array<const N: usize>(operand: &[u8], from: usize) -> [u8; N] {
-    let mut bytes = [0; N];
-    for (b, x) in bytes.iter_mut().zip(operand.iter().skip(from)) {
+// The first N bytes, 0 where there is none.
+// Kept (1d; no plainer): as for the numbers above.
+fn array<const N: usize>(bytes: &[u8]) -> [u8; N] {
+    let mut first = [0; N];
+    for (b, x) in first.iter_mut().zip(bytes) {
         *b = *x;
     }
-    bytes
+    first
 }

@@ -1,101 +1,187 @@
-// The record or the storage altered, as a poke says. A place that is not there is passed over. The numbers are those of the input, which
-// tools/replay.py names; each stands here once, so that an enum of them would only be their list again.
-use crate::Lent;
-use crate::input::Header;
-use crate::parse::number;
+// A poke: the record or the storage altered between two calls. A place that is not there is passed over. The numbers are those of the
+// input, which tools/replay.py names.
+use crate::input::{Fail, Header};
+use crate::parse::words;
+use builder_mut::VariantBuilder;
 use container::{Entry, put_entry};
 use encoding::slices::write_slice;
 use metadata::MetadataBuilder;
-use semantics::{Builder, Container, Counts, ParentEntry};
+use semantics::{Container, Counts};
 
-pub fn alter(b: &mut Builder, h: Header, operand: &[u8]) {
-    let n = number(operand, 0);
-    match h.argument {
-        0..=7 | 20 | 22 => alter_counts(&mut b.counts, h.argument, n),
-        8..=15 | 24 | 25 => {
-            if let Some(k) = b.containers.get_mut(h.size) {
-                alter_container(k, h.argument, n, number(operand, 8));
+// What is altered, and what stands there then: of a container, of its elements and of the storage with the place.
+#[derive(Clone, Copy)]
+pub enum Poke<'a> {
+    Count(Count),
+    Container(usize, Field),
+    Elements(usize, usize),
+    End(usize, usize),
+    Entry(usize, Entry),
+    Undo(usize, Entry),
+    Value(usize, &'a [u8]),
+    Text(usize, &'a [u8]),
+    Mark(usize, usize),
+    // The record has none to set.
+    SortedMark,
+}
+
+// A count or a mark of the record.
+#[derive(Clone, Copy)]
+pub enum Count {
+    Value(usize),
+    Names(usize),
+    NameBytes(usize),
+    Entries(usize),
+    Depth(usize),
+    Unique(bool),
+    Finished(bool),
+    Floor(usize),
+    Undo(usize),
+}
+
+#[derive(Clone, Copy)]
+pub enum Field {
+    Value(usize),
+    Names(usize),
+    Text(usize),
+    Entries(usize),
+    Object(bool),
+    Unique(bool),
+    Parent(Option<Entry>),
+    Undo(usize),
+    Marks(usize),
+}
+
+// A mark's place stands for its seven numbers, in the order of the pokes.
+pub fn poke_of(h: Header, operand: &[u8]) -> Result<Poke<'_>, Fail> {
+    let at = h.size;
+    let [n, offset] = words::<2>(operand);
+    let n = n as usize;
+    let entry = Entry {
+        id: n,
+        offset: offset as usize,
+    };
+    let poke = match h.argument {
+        6 => Poke::SortedMark,
+        0..=5 | 7 | 20 | 22 => Poke::Count(count_of(h.argument, n)?),
+        8..=15 | 24 | 25 => Poke::Container(at, field_of(h.argument, entry)?),
+        16 => Poke::End(at, n),
+        17 => Poke::Entry(at, entry),
+        18 => Poke::Value(at, operand),
+        19 => Poke::Text(at, operand),
+        21 => Poke::Elements(at, n),
+        23 => Poke::Undo(at, entry),
+        26..=32 => {
+            let place = at.saturating_mul(7);
+            Poke::Mark(place.saturating_add(h.argument as usize - 26), n)
+        }
+        _ => return Err(Fail::Malformed),
+    };
+    Ok(poke)
+}
+
+// Kept (7; no plainer): the input's number of a count becomes one of an enum here.
+fn count_of(which: u8, n: usize) -> Result<Count, Fail> {
+    let count = match which {
+        0 => Count::Value(n),
+        1 => Count::Names(n),
+        2 => Count::NameBytes(n),
+        3 => Count::Entries(n),
+        4 => Count::Depth(n),
+        5 => Count::Unique(n == 1),
+        7 => Count::Finished(n == 1),
+        20 => Count::Floor(n),
+        22 => Count::Undo(n),
+        _ => return Err(Fail::Malformed),
+    };
+    Ok(count)
+}
+
+// An own entry that was replaced is given by two numbers, all else by the first.
+// Kept (7; no plainer): the input's number of a field becomes one of an enum here.
+fn field_of(which: u8, given: Entry) -> Result<Field, Fail> {
+    let n = given.id;
+    let field = match which {
+        8 => Field::Value(n),
+        9 => Field::Names(n),
+        10 => Field::Text(n),
+        11 => Field::Entries(n),
+        12 => Field::Object(n == 1),
+        13 => Field::Unique(n == 1),
+        14 => Field::Parent(None),
+        15 => Field::Parent(Some(given)),
+        24 => Field::Undo(n),
+        25 => Field::Marks(n),
+        _ => return Err(Fail::Malformed),
+    };
+    Ok(field)
+}
+
+// Kept (7; no plainer): the pokes are an enum, and each arm alters what its poke names.
+pub fn alter(v: &mut VariantBuilder, poke: Poke) {
+    match poke {
+        Poke::Count(count) => count.put(&mut v.builder.counts),
+        Poke::Container(at, field) => {
+            if let Some(k) = v.builder.containers.get_mut(at) {
+                field.put(k);
             }
         }
-        21 => {
-            if let Some(x) = b.elements.get_mut(h.size) {
-                *x = n;
-            }
+        Poke::Elements(at, n) => put(&mut v.builder.elements, at, n),
+        Poke::End(at, n) => put(v.ends, at, n),
+        Poke::Entry(at, entry) => {
+            let _ = put_entry(v.entries, at, entry);
         }
-        _ => {}
+        Poke::Undo(at, entry) => {
+            let _ = put_entry(v.undo, at, entry);
+        }
+        Poke::Value(at, bytes) => {
+            let _ = write_slice(v.value, at, bytes);
+        }
+        Poke::Text(at, bytes) => {
+            let _ = write_slice(v.text, at, bytes);
+        }
+        Poke::Mark(at, n) => put(v.marks, at, n),
+        Poke::SortedMark => {}
     }
 }
 
-fn alter_counts(c: &mut Counts, which: u8, n: usize) {
-    let m = c.dictionary;
-    match which {
-        0 => c.value = n,
-        1 => c.dictionary = MetadataBuilder::from_parts(n, m.metadata_size()),
-        2 => c.dictionary = MetadataBuilder::from_parts(m.num_field_names(), n),
-        3 => c.entries = n,
-        4 => c.depth = n,
-        5 => c.unique = n == 1,
-        7 => c.finished = n == 1,
-        20 => c.floor = n,
-        22 => c.undo = n,
-        // The record has no sorted mark to set.
-        _ => {}
+// Kept (6; no plainer): a poke names a place of all that is lent, which need not be there.
+fn put(numbers: &mut [usize], at: usize, n: usize) {
+    if let Some(x) = numbers.get_mut(at) {
+        *x = n;
     }
 }
 
-fn alter_container(k: &mut Container, which: u8, n: usize, m: usize) {
-    match which {
-        8 => k.value = n,
-        9 => k.names = n,
-        10 => k.text = n,
-        11 => k.entries = n,
-        12 => k.object = n == 1,
-        13 => k.unique = n == 1,
-        14 => k.parent = ParentEntry::New,
-        24 => k.undo = n,
-        25 => k.marks = n,
-        _ => k.parent = ParentEntry::Replaced { id: n, offset: m },
-    }
-}
-
-impl Lent<'_> {
-    pub fn overwrite(&mut self, h: Header, operand: &[u8]) {
-        let at = h.size;
-        let n = number(operand, 0);
-        let entry = Entry {
-            id: n,
-            offset: number(operand, 8),
-        };
-        match h.argument {
-            16 => {
-                if let Some(end) = self.ends.get_mut(at) {
-                    *end = n;
-                }
+impl Count {
+    fn put(self, c: &mut Counts) {
+        let m = c.dictionary;
+        match self {
+            Count::Value(n) => c.value = n,
+            Count::Names(n) => c.dictionary = MetadataBuilder::from_parts(n, m.metadata_size()),
+            Count::NameBytes(n) => {
+                c.dictionary = MetadataBuilder::from_parts(m.num_field_names(), n);
             }
-            17 => {
-                let _ = put_entry(self.entries, at, entry);
-            }
-            18 => {
-                let _ = write_slice(self.value, at, operand);
-            }
-            19 => {
-                let _ = write_slice(self.text, at, operand);
-            }
-            23 => {
-                let _ = put_entry(self.undo, at, entry);
-            }
-            26..=32 => self.overwrite_mark(at, h.argument as usize - 26, n),
-            _ => {}
+            Count::Entries(n) => c.entries = n,
+            Count::Depth(n) => c.depth = n,
+            Count::Unique(unique) => c.unique = unique,
+            Count::Finished(finished) => c.finished = finished,
+            Count::Floor(n) => c.floor = n,
+            Count::Undo(n) => c.undo = n,
         }
     }
+}
 
-    // A number of a mark: seven stand for each, in the order of the pokes.
-    fn overwrite_mark(&mut self, mark: usize, which: usize, n: usize) {
-        if let Some(x) = self
-            .marks
-            .get_mut(mark.saturating_mul(7).saturating_add(which))
-        {
-            *x = n;
+impl Field {
+    fn put(self, k: &mut Container) {
+        match self {
+            Field::Value(n) => k.value = n,
+            Field::Names(n) => k.names = n,
+            Field::Text(n) => k.text = n,
+            Field::Entries(n) => k.entries = n,
+            Field::Object(object) => k.object = object,
+            Field::Unique(unique) => k.unique = unique,
+            Field::Parent(parent) => k.parent = parent,
+            Field::Undo(n) => k.undo = n,
+            Field::Marks(n) => k.marks = n,
         }
     }
 }

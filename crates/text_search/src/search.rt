@@ -3,7 +3,7 @@ ghost use Rattle.std.specs.Prelude.{◌≡◌, ◌%◌, ◌≤◌, get_or};
 ghost use Rattle.text_search.specs.Search.{least_in, place_in};
 
 use crate::texts::is_text;
-use header_reader::{count_of_fields, list_from, object_from, stored_offset, value_from};
+use header_reader::{Header, Kind, kind_of, value_from};
 
 // Where the first text equal to `wanted` starts, of those that are live.
 pub fn least_place(v: &[u8], wanted: &[u8]) -> Option<usize>
@@ -13,8 +13,8 @@ pub fn least_place(v: &[u8], wanted: &[u8]) -> Option<usize>
     (place < v.len()).then_some(place)
 }
 
-// The same of places below `best`, through at most `depth` containers; `best` where there is none: it is a bound that each value found
-// moves down, and an Option would be unpacked at each of them.
+// The same of places below `best`, through at most `depth` containers; `best` where there is none.
+// Kept (1d; no plainer): `best` is a bound that each value found moves down, and an Option would be unpacked at each of them.
 #[cycle(least_element_least_field_least_value)]
 fn least_value(v: &[u8], wanted: &[u8], best: usize, depth: usize) -> usize
     ensures { (result ≡ least_in depth wanted.now best v.now) × (result ≤ best) }
@@ -22,14 +22,16 @@ fn least_value(v: &[u8], wanted: &[u8], best: usize, depth: usize) -> usize
     if is_text(v, wanted) {
         return 0;
     }
-    match v.first().copied().unwrap_or(0) % 4 {
-        3 => least_element(v, wanted, best, depth),
-        2 => least_field(v, wanted, best, depth),
-        _ => best,
+    match kind_of(v) {
+        Kind::List => least_element(v, wanted, best, depth),
+        Kind::Object => least_field(v, wanted, best, depth),
+        Kind::Scalar => best,
     }
 }
 
-// In a list: what starts behind the least so far is not gone into. The step is as long as the element, so that no index counts.
+// In a list: what starts behind the least so far is not gone into.
+// Kept (3; no plainer): no index is counted: each step is as long as the element, and ends where the bound is that moves down meanwhile, so that
+// an iterator over whole values (none was made) would want the place as well.
 #[cycle(least_element_least_field_least_value)]
 fn least_element(v: &[u8], wanted: &[u8], best: usize, depth: usize) -> usize
     requires { get_or v.now 0 0 % 4 ≡ 3 }
@@ -39,7 +41,7 @@ fn least_element(v: &[u8], wanted: &[u8], best: usize, depth: usize) -> usize
         return best;
     }
     let mut least = best;
-    let mut n = list_from(v);
+    let mut n = Header::of_list(v).from();
     while n < least {
         let element = value_from(v, n);
         if element.is_empty() {
@@ -52,6 +54,7 @@ fn least_element(v: &[u8], wanted: &[u8], best: usize, depth: usize) -> usize
 }
 
 // In an object: its fields as the header has them, which need not be the order of data.
+// Kept (3; no plainer): each offset is read by its number, and the least so far goes from field to field, as it would through a `fold`.
 #[cycle(least_element_least_field_least_value)]
 fn least_field(v: &[u8], wanted: &[u8], best: usize, depth: usize) -> usize
     requires { get_or v.now 0 0 % 4 ≡ 2 }
@@ -60,10 +63,11 @@ fn least_field(v: &[u8], wanted: &[u8], best: usize, depth: usize) -> usize
     if depth == 0 {
         return best;
     }
-    let from = object_from(v);
+    let header = Header::of_object(v);
+    let from = header.from();
     let mut least = best;
-    for k in 0..count_of_fields(v) {
-        let n = from + stored_offset(v, k);
+    for k in 0..header.count() {
+        let n = from + header.offset(k);
         if n < least {
             least = n + least_value(value_from(v, n), wanted, least - n, depth - 1);
         }

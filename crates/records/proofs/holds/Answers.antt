@@ -1,5 +1,5 @@
 -- At most 64 are open and the chain holds; else the chain decides.
-use Rattle.std.proofs.Common.{◌≡◌, ◌≤◌, ◌<◌, ◌∙◌, ◌-◌, Bool, true, false, List, ℕ, leb, sym}
+use Rattle.std.proofs.Common.{◌≡◌, ◌≤◌, ◌<◌, ◌∙◌, ◌-◌, Bool, true, false, List, ℕ, sym}
 use borrow.Author.Tests.{lt-leb}
 use Rattle.semantics.specs.declared.Container.{Container}
 use Rattle.semantics.specs.Record.{chained, rising}

@@ -1,4 +1,4 @@
 use Rattle.semantics.proofs.fresh_counts.Goals as goal
 
 pub returns : goal.returns
-returns c = rw c.new-m.ensures
+returns c = rw c.new.ensures

@@ -1,10 +1,9 @@
 -- Rows 2, 4 and 15 first, and row 1 with them; else the dictionary's answer.
-use mathlib.Core.Path.{sym, ap}
-use Rattle.std.specs.Prelude.{Err}
-use Rattle.metadata.specs.Calls.{finish_number}
+use mathlib.Core.Path.{refl, sym}
 use Rattle.std.proofs.lemmas.Result.{err_from_is_err_and}
+use Rattle.semantics.specs.Refusal.{finish_refusal}
 use Rattle.semantics.specs.Step.{finished}
-use Rattle.semantics.specs.declared.refusal.Refusal.TheVariants as refusal
+use Rattle.semantics.proofs.RefusalLaws.{finish_refused}
 use Rattle.actions.proofs.FinishLaws.{ends_none, ends_written, finishable, finishes_early}
 use Rattle.actions.proofs.dictionary.finish_over.Goals as goal
 
@@ -13,14 +12,12 @@ returns-in_err-may_finish c =
     let x = err_from_is_err_and c.from_residual.result c.from_residual.ensures.1 in
     finishes_early (c.in_err-may_finish.ensures c.args.out.now) x.1 x.2
 
-pub returns-in-Err-Damaged : goal.returns-in-Err-Damaged
-returns-in-Err-Damaged c =
-    ends_none (finishable (sym (c.in_ok-may_finish.ensures c.args.out.now))) c.in-Err-Damaged.ensures refusal.Damaged (ap (λ e. finish_number (Err e)) c.in-Err-Damaged.field-0-is)
+pub returns-in_err-written : goal.returns-in_err-written
+returns-in_err-written c =
+    let e = c.in_err-written.field-0.0 in
+    let x = err_from_is_err_and c.from_residual-in_err-written.result c.from_residual-in_err-written.ensures.1 in
+    rw (x.1, x.2) (ends_none (finishable (sym (c.in_ok-may_finish.ensures c.args.out.now))) (let n = c.names.ensures in rw (n.counts, n.text, n.ends) at c.in_err-written.ensures) (finish_refusal e) (finish_refused e))
 
-pub returns-in-Err-NoRoom : goal.returns-in-Err-NoRoom
-returns-in-Err-NoRoom c =
-    ends_none (finishable (sym (c.in_ok-may_finish.ensures c.args.out.now))) c.in-Err-NoRoom.ensures refusal.OutputFull (ap (λ e. finish_number (Err e)) c.in-Err-NoRoom.field-0-is)
-
-pub returns-in-Ok : goal.returns-in-Ok
+pub returns : goal.returns
 unfolding finished
-returns-in-Ok c = ends_written (finishable (sym (c.in_ok-may_finish.ensures c.args.out.now))) c.finish.ensures c.in-Ok.is
+returns c = ends_written (finishable (sym (c.in_ok-may_finish.ensures c.args.out.now))) (let n = c.names.ensures in rw (n.counts, n.text, n.ends) at c.in_ok-written.ensures) refl

@@ -1,8 +1,7 @@
-use mathlib.Core.Path.{ap}
-use Rattle.std.specs.Prelude.{Err}
-use Rattle.container.specs.Close.{closed_number}
+use mathlib.Core.Path.{refl}
 use Rattle.std.proofs.lemmas.Result.{err_from_is_err_and}
-use Rattle.semantics.specs.declared.refusal.Refusal.TheVariants as refusal
+use Rattle.semantics.specs.Refusal.{close_refusal}
+use Rattle.semantics.proofs.RefusalLaws.{close_number}
 use Rattle.actions.proofs.CloseLaws.{closable, closes_early, leaves_closed, leaves_refused}
 use Rattle.actions.proofs.header.close_over.Goals as goal
 
@@ -17,11 +16,11 @@ put_header-requires c = (closable c.in_ok-most.ensures).most
 pub overflow_sub-result : goal.overflow_sub-result
 overflow_sub-result c = (closable c.in_ok-most.ensures).depth
 
-pub returns-in-Ok : goal.returns-in-Ok
-returns-in-Ok c = leaves_closed (closable c.in_ok-most.ensures) (c.put_header.ensures _) c.in-Ok.is
+pub returns-in_err-used : goal.returns-in_err-used
+returns-in_err-used c =
+    let e = c.in_err-used.field-0.0 in
+    let x = err_from_is_err_and c.from_residual-in_err-used.result c.from_residual-in_err-used.ensures.1 in
+    rw (x.1, x.2) (leaves_refused (close_refusal e) (closable c.in_ok-most.ensures) (c.in_err-used.ensures _) (close_number e))
 
-pub returns-in-Err-Damaged : goal.returns-in-Err-Damaged
-returns-in-Err-Damaged c = leaves_refused refusal.Damaged (closable c.in_ok-most.ensures) (c.in-Err-Damaged.ensures _) (ap (λ e. closed_number (Err e)) c.in-Err-Damaged.field-0-is)
-
-pub returns-in-Err-NoRoom : goal.returns-in-Err-NoRoom
-returns-in-Err-NoRoom c = leaves_refused refusal.NoRoom (closable c.in_ok-most.ensures) (c.in-Err-NoRoom.ensures _) (ap (λ e. closed_number (Err e)) c.in-Err-NoRoom.field-0-is)
+pub returns : goal.returns
+returns c = leaves_closed (closable c.in_ok-most.ensures) (c.in_ok-used.ensures _) refl

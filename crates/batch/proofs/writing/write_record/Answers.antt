@@ -1,5 +1,5 @@
 -- Four parts filled in a row are the record's.
-use mathlib.Core.Path.{◌≡◌, ◌∙◌}
+use mathlib.Core.Path.{◌∙◌}
 use Rattle.batch.specs.Layout.{record_bytes}
 use Rattle.batch.proofs.NumberLaws.{length_big, big_bytes}
 use Rattle.batch.proofs.WritingLaws.{filled}

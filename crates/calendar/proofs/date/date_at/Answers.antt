@@ -4,10 +4,10 @@ use Rattle.calendar.proofs.CodeLaws.{arrived_as}
 use Rattle.calendar.proofs.date.date_at.Goals as goal
 
 pub month_of-at-requires : goal.month_of-at-requires
-month_of-at-requires c = rw (c.years_to.ensures, c.is_leap.ensures) (days_left _ _ c.years_before-k.ensures)
+month_of-at-requires c = rw c.years_to.ensures (days_left _ _ c.years_before-k.ensures)
 
 pub returns : goal.returns
 returns c =
     let m = c.month_of-at in
     arrived_as c.args.n c.years_before-k.result m.result.month m.result.day c.years_before-k.ensures
-    (rw (← c.is_leap.ensures, ← c.years_to.ensures) m.ensures)
+    (rw (← c.years_to.ensures) m.ensures)

@@ -1,14 +1,10 @@
 -- Whole months are taken off while they are there.
 use native.Mathlib.Omega.{arith}
-use Rattle.calendar.proofs.LoopLaws.{reached_start, reached_again, reached_end, reached_last}
+use Rattle.calendar.proofs.LoopLaws.{reached_start, reached_again, reached_last}
 use Rattle.calendar.proofs.gregorian.month_of.Goals as goal
 
 pub loop-month-init : goal.loop-month-init
 loop-month-init c = reached_start _ _
-
-pub returns-then-rest-length : goal.returns-then-rest-length
-returns-then-rest-length c =
-    reached_end _ _ _ _ c.loop-month.invariant (omega (arith, c.month_length-length.ensures, c.if-rest-length.true))
 
 pub loop-month-preserved : goal.loop-month-preserved
 loop-month-preserved c =

@@ -1,6 +1,4 @@
 -- Both numbers are written where there is room for the entry, and nothing elsewhere.
-use native.Mathlib.Omega.{arith}
-use lib.ListN.{length-set}
 use Rattle.container.proofs.EntryWalk.{notes_done, notes_none}
 use Rattle.container.proofs.entries.put_entry.Goals as goal
 
@@ -9,6 +7,3 @@ returns-then-k-entries c = notes_done _ _ _ c.if-k-entries.true
 
 pub returns-else-k-entries : goal.returns-else-k-entries
 returns-else-k-entries c = notes_none _ _ _ _ c.if-k-entries.false
-
-pub bounds-entries-q : goal.bounds-entries-q
-bounds-entries-q c = simp length-set (omega arith)

@@ -6,4 +6,5 @@ use Rattle.container.proofs.entries.search_entries.Given as goal
 
 abbrev pub invariant-loop-k : goal.invariant-loop-k
 invariant-loop-k l =
-    Walks (misplaced l.object l.names l.size (range_of l.entries l.from l.to)) (l.from + seek l.id (range_of l.entries l.from l.to)) (largest (ids_of (range_of l.entries l.from l.to))) l.object l.names l.size l.id l.entries l.end l.misplaced l.first l.largest l.k
+    Walks (misplaced l.object l.names l.size (range_of l.entries l.from l.to)) (l.from + seek l.id (range_of l.entries l.from l.to))
+    (largest (ids_of (range_of l.entries l.from l.to))) l.object l.names l.size l.id l.entries l.end l.misplaced l.first l.largest l.k

@@ -1,17 +1,31 @@
 -- The numbers still to be written, written where the loop stands, give the whole.
 use native.Mathlib.Omega.{arith}
 use mathlib.Core.Path.{◌≡◌}
-use Prim.Native.Nat.{◌+◌, ◌-◌, ◌*◌}
-use Rattle.container.proofs.HeaderLaws.{strides_again, strides_end}
+use Prim.Native.Nat.{◌+◌, ◌-◌, ◌*◌, ◌/◌}
+use native.Mathlib.Nat.{add-zero, sub-zero}
+use lib.ListN.{length}
+use Rattle.container.proofs.HeaderLaws.{strides_start, strides_room, strides_again, strides_end}
 use Rattle.container.proofs.header.write_strided.Goals as goal
+
+pub loop-k-init : goal.loop-k-init
+loop-k-init c =
+    let a = c.args in
+    let n = length a.entries.now / 2 in
+    rw (add-zero a.part, sub-zero n)
+    (strides_start a.value.now a.entries.now a.width 0 a.part n (omega (arith, c.requires.room)) (omega (arith, c.requires.second)))
+
+pub put_packed-requires : goal.put_packed-requires
+put_packed-requires c = let i = c.loop-k.invariant in omega (arith, strides_room i (omega arith), i.size)
 
 pub loop-k-preserved : goal.loop-k-preserved
 loop-k-preserved c =
     let a = c.args in
     let k = c.loop-k.k in
-    let p : a.p + 2 * k + 2 ≡ a.p + 2 * (k + 1) = omega arith in
-    let n : a.n - k - 1 ≡ a.n - (k + 1) = omega arith in
-    rw (p, n) at (strides_again c.loop-k.invariant (omega arith) c.put_packed.ensures)
+    let n = length a.entries.now / 2 in
+    let p : a.part + 2 * k + 2 ≡ a.part + 2 * (k + 1) = omega arith in
+    let m : n - k - 1 ≡ n - (k + 1) = omega arith in
+    let q : 2 * k + a.part ≡ a.part + 2 * k = omega arith in
+    rw (p, m) at (strides_again c.loop-k.invariant (omega arith) (rw q at c.put_packed.ensures))
 
 pub returns : goal.returns
 returns c = strides_end c.loop-k.invariant (omega arith)

@@ -1,4 +1,4 @@
-use Prim.Native.Nat.{◌+◌, ◌-◌, ◌*◌}
+use Prim.Native.Nat.{◌+◌, ◌-◌, ◌*◌, ◌/◌}
 use lib.ListN.{length}
 use Rattle.encoding.specs.Packed.{les}
 use Rattle.encoding.specs.Slices.{write}
@@ -8,4 +8,6 @@ use Rattle.container.proofs.header.write_strided.Given as goal
 
 abbrev pub invariant-loop-k : goal.invariant-loop-k
 invariant-loop-k l =
-    Strides (write l.initial.at (les l.width (strided l.numbers l.p l.n)) l.initial.value) l.numbers l.width (l.initial.at + l.width * l.n) (length l.initial.value) l.value l.at (l.p + 2 * l.k) (l.n - l.k)
+    let n = length l.entries / 2 in
+    Strides (write 0 (les l.width (strided l.entries l.part n)) l.initial.value) l.entries l.width (0 + l.width * n) (length l.initial.value)
+    l.value l.at (l.part + 2 * l.k) (n - l.k)

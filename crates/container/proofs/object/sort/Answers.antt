@@ -23,7 +23,9 @@ insert-requires-clause-behind c =
 pub loop-j-preserved : goal.loop-j-preserved
 loop-j-preserved c =
     let i = c.loop-j.invariant in
-    sorts_again c.loop-j.invariant (omega arith) (inserted_part _ _ (length c.args.entries.now / 2) _ _ _ (omega (arith, i.high)) (omega (arith, i.high, i.size)) (omega (arith, i.high, i.size)) (omega (arith, tail_length (c.loop-j.j - 1) c.loop-j.entries, i.high, i.size)) c.insert.ensures)
+    sorts_again c.loop-j.invariant (omega arith)
+    (inserted_part _ _ (length c.args.entries.now / 2) _ _ _ (omega (arith, i.high)) (omega (arith, i.high, i.size)) (omega (arith, i.high, i.size))
+    (omega (arith, tail_length (c.loop-j.j - 1) c.loop-j.entries, i.high, i.size)) c.insert.ensures)
 
 pub returns : goal.returns
 returns c = sorts_end c.loop-j.invariant (omega arith)

@@ -1,18 +1,13 @@
--- The entry is where the search found it, or there is none.
-use native.Mathlib.Omega.{arith}
-use native.Mathlib.Nat.{sub-zero}
-use mathlib.Core.Path.{◌∙◌}
+-- The entry is where the look-up found it, or there is none.
 use Prim.Native.Nat.{◌/◌}
 use lib.ListN.{length}
 use Rattle.container.proofs.UndoLaws.{once_found, once_passed}
 use Rattle.container.proofs.undo.undo_one.Goals as goal
 
-pub returns-then-s-n : goal.returns-then-s-n
-returns-then-s-n c =
-    let n = length c.args.entries.now / 2 in
-    rw (sub-zero n) at (c.replace_offset-former.ensures.1 ∙ once_found c.args.entries.now 0 n c.args.u _ (omega arith, omega arith) c.search_entries-s.ensures.place_first c.if-s-n.true)
+pub returns-in-Some : goal.returns-in-Some
+returns-in-Some c =
+    once_found c.args.entries.now (length c.args.entries.now / 2) c.args.u _ (rw c.in-Some.is at c.place_of.ensures)
 
-pub returns-else-s-n : goal.returns-else-s-n
-returns-else-s-n c =
-    let n = length c.args.entries.now / 2 in
-    rw (sub-zero n) at (once_passed c.args.entries.now 0 n c.args.u _ (omega arith, omega arith) c.search_entries-s.ensures.place_first c.if-s-n.false)
+pub returns-in_default : goal.returns-in_default
+returns-in_default c =
+    once_passed c.args.entries.now (length c.args.entries.now / 2) c.args.u (rw c.in_default.is at c.place_of.ensures)

@@ -1,26 +1,19 @@
-use native.Mathlib.Omega.{arith}
 use mir.Syntax.{w64}
 use mir.ValLaws.{to_z-of_z}
-use mathlib.Core.Logic.{inl, inr}
-use mathlib.Core.Path.{refl}
-use Rattle.calendar.specs.Answers.{civil_variant}
-use Rattle.semantics.specs.Record.{civil}
-use Rattle.actions.proofs.AppendLaws.{own_stored}
-use Rattle.ffi.specs.Dates.{civil_of, date_of}
+use Rattle.std.proofs.Common.{rules, ◌≡◌, ◌∙◌, sym, None, Some, Err}
+use Rattle.semantics.specs.declared.refusal.Refusal.TheVariants.{OutOfRange}
 use Rattle.ffi.proofs.DateLaws.{no_civil, some_civil}
 use Rattle.ffi.proofs.dates.civil_by.Goals as goal
 
-pub returns-in-11-to-13 : goal.returns-in-11-to-13
-returns-in-11-to-13 c =
+pub returns-in_err-ok_or : goal.returns-in_err-ok_or
+returns-in_err-ok_or c =
+    let n : c.civil_of.result ≡ None = search rules in
+    let r : c.from_residual.result ≡ Err OutOfRange = search rules in
+    rw r (no_civil _ _ _ (rw n at c.civil_of.ensures))
+
+pub returns : goal.returns
+returns c =
     let a = c.args in
-    let k = rw (to_z-of_z w64 a.year c.ranges.year, to_z-of_z w64 a.month c.ranges.month, to_z-of_z w64 a.day c.ranges.day, to_z-of_z w64 a.time c.ranges.time) at c.civil_of.ensures in
-    let l = c.in-11-to-13.if-code-lt11-own.false in
-    let h = c.in-11-to-13.if-code-lt14-own.true in
-    let d = date_of a.year a.month a.day in
-    some_civil a.code d a.time (omega arith) (omega arith) (own_stored (civil (civil_of a.code d a.time)) (civil_variant (civil_of a.code d a.time)) refl (rw k at c.civil_own.ensures))
-
-pub returns-in_default : goal.returns-in_default
-returns-in_default c = no_civil _ _ _ (inl c.in_default.if-code-lt11-own.true)
-
-pub returns-in_default-2 : goal.returns-in_default-2
-returns-in_default-2 c = no_civil _ _ _ (inr c.in_default.if-code-lt14-own.false)
+    let n : c.civil_of.result ≡ Some c.in_ok-ok_or.field-0 = search rules in
+    let k = rw (to_z-of_z w64 a.time c.ranges.time) at (rw n at c.civil_of.ensures) in
+    some_civil a.code a.date a.time k.0 k.1 (rw k.2 at c.own.ensures)

@@ -7,7 +7,10 @@ use Rattle.lexicon.proofs.ByteLaws.{bytes_below}
 use Rattle.lexicon.proofs.TestLaws.{Front, refused_front, accepted_unmarked, decided_marked, bits_fail, room_short, zero_other, names_bad, front_passed}
 use Rattle.lexicon.proofs.NameLaws.{width_kept, count_kept, offset_kept}
 use Rattle.lexicon.proofs.reading.is_dictionary.Goals as goal
-use Rattle.lexicon.proofs.reading.is_dictionary.Goals.{After-marked, then-is_empty-via-then-is_empty, then-is_empty-via-else-is_empty+then-d-gt4294967295, then-is_empty-via-else-is_empty+else-d-gt4294967295+then-not-version_one, then-d-text-via-then-d-text, then-d-text-via-else-d-text+then-offset-ne0, then-d-text-via-else-d-text+else-offset-ne0+then-not-names_good}
+use Rattle.lexicon.proofs.reading.is_dictionary.Goals.{After-marked, then-is_empty-via-then-is_empty, then-is_empty-via-else-is_empty+then-d-gt4294967295}
+use Rattle.lexicon.proofs.reading.is_dictionary.Goals.{then-is_empty-via-else-is_empty+else-d-gt4294967295+then-not-version_one, then-d-text-via-then-d-text}
+use Rattle.lexicon.proofs.reading.is_dictionary.Goals.{then-d-text-via-else-d-text+then-offset-ne0}
+use Rattle.lexicon.proofs.reading.is_dictionary.Goals.{then-d-text-via-else-d-text+else-offset-ne0+then-not-names_good}
 
 -- all but the order
 passed : (c : After-marked) → Front c.args.d.now
@@ -15,8 +18,10 @@ passed c =
     let s = c.of-stored.result in
     let e = c.of-stored.ensures in
     let d = c.args.d.now in
-    front_passed {d = d} (width_kept s e) (count_kept s e) (eqb-false (length d) 0 (sym c.is_empty.ensures ∙ c.if-is_empty.false)) c.if-d-gt4294967295.false c.version_one.ensures c.if-not-version_one.false
-    (rw c.text.ensures at c.if-d-text.false) (offset_kept s e c.offset.ensures.value) c.if-offset-ne0.false (rw e at c.names_good.ensures) c.if-not-names_good.false
+    front_passed {d = d} (width_kept s e) (count_kept s e) (eqb-false (length d) 0 (sym c.is_empty.ensures ∙ c.if-is_empty.false))
+    c.if-d-gt4294967295.false c.version_one.ensures c.if-not-version_one.false
+    (rw c.text.ensures at c.if-d-text.false) (offset_kept s e c.offset.ensures.value) c.if-offset-ne0.false (rw e at c.names_good.ensures)
+    c.if-not-names_good.false
 
 pub returns-then-is_empty : goal.returns-then-is_empty
 returns-then-is_empty c = refused_front _ (λ f. elim c.then-is_empty.branch [
@@ -40,7 +45,8 @@ returns-then-d-text c =
 pub returns-then-not-marked : goal.returns-then-not-marked
 returns-then-not-marked c =
     let m = c.if-not-marked.true in
-    rw m (accepted_unmarked (bytes_below c.args.d.now (λ i. (c.type_inv.d i).fits)) (passed (goal.at.returns-then-not-marked c).After-marked) (sym c.marked.ensures ∙ m))
+    rw m (accepted_unmarked (bytes_below c.args.d.now (λ i. (c.type_inv.d i).fits))
+    (passed (goal.at.returns-then-not-marked c).After-marked) (sym c.marked.ensures ∙ m))
 
 pub returns-else-not-marked : goal.returns-else-not-marked
 returns-else-not-marked c =

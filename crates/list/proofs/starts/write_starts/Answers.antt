@@ -8,14 +8,15 @@ use Rattle.list.proofs.StartLaws.{starts_start, starts_again, starts_end}
 use Rattle.list.proofs.starts.write_starts.Goals as goal
 
 pub loop-init : goal.loop-init
-loop-init c = rw (sub-zero c.args.n) (starts_start _ _ _ _ _ c.requires)
+loop-init c = rw (sub-zero c.args.n) (starts_start _ _ _ 0 _ (omega (arith, c.requires)))
 
 pub loop-preserved : goal.loop-preserved
 loop-preserved c =
     let n = c.args.n in
     let k = c.loop.counter in
     let e : n - k - 1 ≡ n - (k + 1) = omega arith in
-    rw e at (starts_again c.unwrap_or.result c.loop.invariant (omega arith) c.put_packed.ensures (length_or_zero _ _ _ c.value_length.ensures c.unwrap_or.ensures))
+    rw e at (starts_again c.unwrap_or.result c.loop.invariant (omega arith) c.put_packed.ensures
+    (length_or_zero _ _ _ c.value_length.ensures c.unwrap_or.ensures))
 
 pub returns : goal.returns
 returns c = starts_end c.loop.invariant (omega arith)

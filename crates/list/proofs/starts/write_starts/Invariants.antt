@@ -7,4 +7,5 @@ use Rattle.list.proofs.StartLaws.{Starts}
 use Rattle.list.proofs.starts.write_starts.Given as goal
 
 abbrev pub invariant-loop : goal.invariant-loop
-invariant-loop l = Starts (write l.initial.at (les l.width (starts_in l.n 0 l.values)) l.initial.front) l.width (length l.initial.front) (length l.values) l.front l.at l.rest (l.n - l.counter)
+invariant-loop l =
+    Starts (write 0 (les l.width (starts_in l.n 0 l.values)) l.initial.row) l.width (length l.initial.row) (length l.values) l.row l.at l.rest (l.n - l.counter)

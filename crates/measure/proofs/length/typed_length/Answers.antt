@@ -11,7 +11,8 @@ returns-in_err-number_at c = rw c.from_residual.ensures (sized_cut c.args.code c
 pub returns-in_ok-number_at : goal.returns-in_ok-number_at
 returns-in_ok-number_at c =
     let f = c.from-n.ensures ∙ stores_four c.args.code c.if-code-eq16.either in
-    sized_told c.args.code c.args.v.now c.requires (rw (stores c.args.code _ c.if-code-eq16.either, ← c.in_ok-number_at.ensures.1.value) (omega arith)) (omega arith)
+    sized_told c.args.code c.args.v.now c.requires (rw (stores c.args.code _ c.if-code-eq16.either, ← c.in_ok-number_at.ensures.1.value) (omega arith))
+    (omega arith)
 
 pub returns-else-code-eq16 : goal.returns-else-code-eq16
 returns-else-code-eq16 c =

@@ -17,10 +17,13 @@ pub returns-then-room-self : goal.returns-then-room-self
 returns-then-room-self c = let a = c.args in size_none a.floor a.room a.self c.then-room-self.either
 
 pub overflow_mul-size : goal.overflow_mul-size
-overflow_mul-size c = let a = c.args in let m = a.self in omega (arith, numbers (goal.at.overflow_mul-size c).After-number_width, size_most a.floor m.names m.text)
+overflow_mul-size c =
+    let a = c.args in let m = a.self in omega (arith, numbers (goal.at.overflow_mul-size c).After-number_width, size_most a.floor m.names m.text)
 
 pub overflow_add-size-2 : goal.overflow_add-size-2
-overflow_add-size-2 c = let a = c.args in let m = a.self in omega (arith, numbers (goal.at.overflow_add-size-2 c).After-number_width, size_most a.floor m.names m.text)
+overflow_add-size-2 c =
+    let a = c.args in let m = a.self in omega (arith, numbers (goal.at.overflow_add-size-2 c).After-number_width, size_most a.floor m.names m.text)
 
 pub overflow_add-size-3 : goal.overflow_add-size-3
-overflow_add-size-3 c = let a = c.args in let m = a.self in omega (arith, numbers (goal.at.overflow_add-size-3 c).After-number_width, size_most a.floor m.names m.text)
+overflow_add-size-3 c =
+    let a = c.args in let m = a.self in omega (arith, numbers (goal.at.overflow_add-size-3 c).After-number_width, size_most a.floor m.names m.text)

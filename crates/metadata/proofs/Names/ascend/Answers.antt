@@ -19,7 +19,8 @@ returns-then-self-ne0 c =
     let ns = names_of s.counts s.text.now s.ends.now in
     let l = length_names s.counts s.text.now s.ends.now c.requires in
     let h : 0 < length ns = omega arith in
-    let a = all_from_yields_List (rises ns) _ _ c.all.result c.all.ensures.ran (YieldsList-from_range 1 s.counts.names (s.counts.names - 1) refl refl) (λ x b q k. search (rules, tests)) in
+    let a = all_from_yields_List (rises ns) _ _ c.all.result c.all.ensures.ran (YieldsList-from_range 1 s.counts.names (s.counts.names - 1) refl refl)
+    (λ x b q k. search (rules, tests)) in
     a ∙ (ap (λ n. list_all (rises ns) (range_with_len 1 (n - 1))) (sym l) ∙ (rise_all ns h ∙ sym (sorted_some ns h)))
 
 pub returns-else-self-ne0 : goal.returns-else-self-ne0

@@ -17,8 +17,10 @@ returns-in-Some c = lookup_found (passed _ _ _ _ c.place_of.ensures c.in_ok-plac
 
 pub returns-then-has_room : goal.returns-then-has_room
 returns-then-has_room c =
-    lookup_unknown (passed _ _ _ _ c.place_of.ensures c.in_ok-place.was) (sym c.is_utf8.ensures ∙ c.if-not-is_utf8.false) c.in_default.is c.has_room.ensures c.if-has_room.true
+    lookup_unknown (passed _ _ _ _ c.place_of.ensures c.in_ok-place.was) (sym c.is_utf8.ensures ∙ c.if-not-is_utf8.false) c.in_default.is c.has_room.ensures
+    c.if-has_room.true
 
 pub returns-else-has_room : goal.returns-else-has_room
 returns-else-has_room c =
-    lookup_unknown (passed _ _ _ _ c.place_of.ensures c.in_ok-place.was) (sym c.is_utf8.ensures ∙ c.if-not-is_utf8.false) c.in_default.is c.has_room.ensures c.if-has_room.false
+    lookup_unknown (passed _ _ _ _ c.place_of.ensures c.in_ok-place.was) (sym c.is_utf8.ensures ∙ c.if-not-is_utf8.false) c.in_default.is c.has_room.ensures
+    c.if-has_room.false

@@ -1,9 +1,11 @@
 -- The ends that are still to be read decide as all of them do.
 use native.Mathlib.Omega.{arith}
 use mathlib.Core.Path.{sym, ◌∙◌}
-use Rattle.metadata.proofs.NameLaws.{within, seeks_start, sought_exceeds, seeks_fall, seeks_over, seeks_next, seeks_whole, seeks_apart}
+use Rattle.metadata.proofs.NameLaws.{found_stays, found_now, found_not, within, seeks_start, sought_exceeds, seeks_fall, seeks_over, seeks_next, seeks_whole}
+use Rattle.metadata.proofs.NameLaws.{seeks_apart}
 use Rattle.metadata.proofs.Names.place_of.Goals as goal
-use Rattle.metadata.proofs.Names.place_of.Goals.{then-end-at-via-then-end-at, then-end-at-via-else-end-at+then-self-end}
+use Rattle.metadata.proofs.Names.place_of.Goals.{then-end-at-via-then-end-at, then-end-at-via-else-end-at+then-self-end, then-is_none+then-same, else-is_none}
+use Rattle.metadata.proofs.Names.place_of.Goals.{else-is_none-via-then-is_none+else-same, else-is_none-via-else-is_none}
 
 pub returns-then-exceeds : goal.returns-then-exceeds
 returns-then-exceeds c = sought_exceeds _ _ _ _ (sym c.exceeds.ensures ∙ c.if-exceeds.true)
@@ -22,7 +24,13 @@ slice_bounds-same-end c = let s = c.args.self in let w = within s.counts s.text.
 
 pub loop-id-preserved : goal.loop-id-preserved
 loop-id-preserved c =
-    seeks_next c.loop-id.invariant c.loop-id-test.true c.if-end-at.false c.if-self-end.false c.same.ensures c.then_some.ensures c.or-found.ensures
+    seeks_next c.loop-id.invariant c.loop-id-test.true c.if-end-at.false c.if-self-end.false (elim c.if-is_none.branch [
+      | then-is_none+then-same w ↦ w.found-is ∙ found_now _ _ c.is_none.ensures w.if-is_none.true w.same.ensures w.if-same.true
+      | else-is_none w ↦ w.found-is ∙ (elim w.else-is_none.branch [
+        | else-is_none-via-then-is_none+else-same v ↦ found_not _ _ c.is_none.ensures v.if-is_none.true v.same.ensures v.if-same.false
+        | else-is_none-via-else-is_none v ↦ found_stays _ _ _ c.is_none.ensures v.if-is_none.false
+      ])
+    ])
 
 pub returns-then-at-self : goal.returns-then-at-self
 returns-then-at-self c = seeks_whole c.loop-id.invariant c.loop-id-test.false c.if-at-self.true

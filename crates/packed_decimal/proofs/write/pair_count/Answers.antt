@@ -1,13 +1,11 @@
--- The pairs counted and those of what is left are all.
+-- The logarithm tells.
+use mathlib.Core.Bool.{false≢true}
 use native.Mathlib.Omega.{arith}
-use Rattle.packed_decimal.proofs.WriteLaws.{counts_none, counts_again, counts_all, splits}
+use Rattle.packed_decimal.proofs.WriteLaws.{pairs_told, pairs_zero}
 use Rattle.packed_decimal.proofs.write.pair_count.Goals as goal
 
-pub loop-rest-init : goal.loop-rest-init
-loop-rest-init c = counts_none c.args.n c.requires
+pub returns-in-Some : goal.returns-in-Some
+returns-in-Some c = pairs_told _ _ c.in-Some.ensures.power_le c.in-Some.ensures.next_power_gt
 
-pub loop-rest-preserved : goal.loop-rest-preserved
-loop-rest-preserved c = counts_again c.loop-rest.invariant (splits c.loop-rest.rest) (omega (arith, c.loop-rest-test.true))
-
-pub returns : goal.returns
-returns c = counts_all c.loop-rest.invariant c.loop-rest-test.false
+pub returns-in-None : goal.returns-in-None
+returns-in-None c = pairs_zero _ (λ h. false≢true (c.in-None.ensures.variant.1 (h, omega arith)))

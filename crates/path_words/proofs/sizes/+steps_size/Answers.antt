@@ -10,14 +10,14 @@ pub returns-then-depth-eq0 : goal.returns-then-depth-eq0
 returns-then-depth-eq0 t c = let e = steps_none _ _ _ _ c.if-depth-eq0.true in (sym (ap length e), omega arith)
 
 pub returns-in_default : goal.returns-in_default
-returns-in_default t c = let e = steps_nothing _ _ c.child_over.ensures _ _ c.in_default.is in (sym (ap length e), omega arith)
+returns-in_default t c = let e = steps_nothing _ _ c.child.ensures _ _ c.in_default.is in (sym (ap length e), omega arith)
 
-pub overflow_sub-p : goal.overflow_sub-p
-overflow_sub-p t c = child_start _ _ c.child_over.ensures c.in-Some.is
+pub inside-requires : goal.inside-requires
+inside-requires t c = child_start _ _ c.child.ensures c.in-Some.is
 
 pub returns : goal.returns
 returns t c =
-    let e = child_steps _ _ c.child_over.ensures (dictionary_names c.args.d.now) _ c.in-Some.is c.value_from.ensures c.if-depth-eq0.false in
+    let e = child_steps _ _ c.child.ensures (dictionary_names c.args.d.now) _ c.in-Some.is c.inside.ensures.value c.inside.ensures.place c.if-depth-eq0.false in
     let s = c.step_size.ensures in
     let r = c.steps_size.ensures in
     (omega (arith, parts e, s.0, r.0), omega (arith, s.1, r.1))

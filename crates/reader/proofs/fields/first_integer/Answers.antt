@@ -1,22 +1,9 @@
 -- The pair's refusal, then what an object has.
-use native.Mathlib.Omega.{arith}
-use mathlib.Core.Path.{refl}
-use Rattle.reader.proofs.ValueLaws.{value_some, value_headed}
-use Rattle.reader.proofs.PairLaws.{pair_valid}
-use Rattle.reader.proofs.FieldLaws.{offsets_inside}
-use Rattle.reader.proofs.AnswerLaws.{integer_missing, integer_first_lem}
+use Rattle.reader.proofs.AnswerLaws.{integer_told_lem}
 use Rattle.reader.proofs.fields.first_integer.Goals as goal
 
-pub bounds-v-0 : goal.bounds-v-0
-bounds-v-0 c = let a = c.args in value_some _ _ _ (pair_valid a.d.now a.v.now c.in_ok-read_pair.ensures refl)
-
-pub integer_field-requires : goal.integer_field-requires
-integer_field-requires c =
+pub returns : goal.returns
+returns c =
     let a = c.args in
-    offsets_inside _ _ (value_headed _ _ _ (pair_valid a.d.now a.v.now c.in_ok-read_pair.ensures refl) (λ z. absurd (omega arith)) c.if-v-eq2.true)
-
-pub returns-then-v-eq2 : goal.returns-then-v-eq2
-returns-then-v-eq2 c = let a = c.args in integer_first_lem a.d.now a.v.now c.in_ok-read_pair.ensures c.if-v-eq2.true c.integer_field.ensures
-
-pub returns-else-v-eq2 : goal.returns-else-v-eq2
-returns-else-v-eq2 c = let a = c.args in integer_missing a.d.now a.v.now c.in_ok-read_pair.ensures c.if-v-eq2.false
+    let p = c.in_ok-pair.ensures in
+    integer_told_lem a.d.now a.v.now p.number (rw p.pair.1 at c.integer_field.ensures)

@@ -3,7 +3,7 @@ use Rattle.refusals.proofs.NameLaws.{sees_none, sees_name}
 use Rattle.refusals.proofs.Seen.field_of.Goals as goal
 
 pub returns-in_default : goal.returns-in_default
-returns-in_default c = rw (c.in_default.is, c.no_field.ensures) (sees_none _ _ _)
+returns-in_default c = rw c.in_default.is (sees_none _ _ _)
 
 pub returns : goal.returns
 returns c =

@@ -1,6 +1,6 @@
 -- Number 1 where every call has it; else the rows over what is known of the name.
 use mathlib.Core.Path.{sym, ◌∙◌}
-use Rattle.refusals.specs.Decide.{storage_in}
+use Rattle.refusals.specs.Decide.{opens_of, storage_in}
 use Rattle.refusals.proofs.RowLaws.{enter_decides, decides_broken}
 use Rattle.refusals.proofs.Seen.may_enter.Goals as goal
 
@@ -12,5 +12,5 @@ field_of-known-requires c = sym c.broken.ensures ∙ c.if-broken.false
 
 pub returns : goal.returns
 returns c =
-    enter_decides _ (storage_in c.args.self.now) c.args.name c.args.opens c.args.size (sym c.broken.ensures ∙ c.if-broken.false) c.field_of-known.ensures
+    enter_decides _ (storage_in c.args.self.now) c.args.name (opens_of c.args.call) c.args.size (sym c.broken.ensures ∙ c.if-broken.false) c.field_of-known.ensures
     (rw c.is_some.ensures at c.rows.ensures)

@@ -58,7 +58,7 @@ returns-in-68 c =
     let l : length p ≡ 8 = omega (arith, stored_size 68 p (rw c.in-68.is at c.requires.1)) in
     let d : length p - 8 ≡ 0 = omega arith in
     let k = rw (c.unwrap-in-68.ensures, d) at c.last_chunk-in-68.ensures.cases in
-    rw c.in-68.is (c.is_beyond_day.ensures ∙ ap beyond_day (read_back w64 (record { sfits = c.from_le_bytes-micros.type_inv }) c.from_le_bytes-micros.ensures k.1.same l))
+    rw c.in-68.is (c.time_out_of_range.ensures ∙ ap beyond_day (read_back w64 (record { sfits = c.from_le_bytes-micros.type_inv }) c.from_le_bytes-micros.ensures k.1.same l))
 
 pub returns-then-first-eq1 : goal.returns-then-first-eq1
 returns-then-first-eq1 c = short_read c.args.payload.now c.requires.1 c.ranges.first.fits c.if-first-eq1.true c.is_utf8-then-first-eq1.ensures

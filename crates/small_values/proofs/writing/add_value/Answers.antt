@@ -9,13 +9,13 @@ use Rattle.small_values.proofs.writing.add_value.Goals.{In-Ok}
 -- the string is a value
 value : (c : In-Ok) → let v = c.args.string.now in
     bytes_of v ≡ record_bytes (record_of never_used v)
-value c = taken _ c.in-Ok.ensures refl
+value c = taken _ c.in-Ok.ensures.number refl
 
 pub returns-then-ne : goal.returns-then-ne
 returns-then-ne c = none_added _ _ _ (other_length _ c.value_length.ensures (sym c.ne.ensures ∙ c.if-ne.true))
 
 pub returns-in_default : goal.returns-in_default
-returns-in_default c = none_added _ _ _ (refused _ c.read_pair.ensures (refusal _ c.in_default.not-Ok))
+returns-in_default c = none_added _ _ _ (refused _ c.read_pair.ensures.number (refusal _ c.in_default.not-Ok))
 
 pub returns : goal.returns
 returns c =

@@ -1,25 +1,27 @@
 -- The length, then the room; then the version byte and the records behind it.
 use native.Mathlib.Omega.{arith}
+use mathlib.Core.Path.{◌≡◌}
 use Prim.Native.Nat.{◌≤◌}
 use lib.ListN.{length}
+use Rattle.std.proofs.Common.{rules, Err}
+use Rattle.small_values.specs.declared.SmallError.TheVariants.{BadLength}
 use Rattle.small_values.specs.Small.{file_of}
-use Rattle.small_values.proofs.WritingLaws.{small_bad, too_short, too_long_lem, small_no_room, small_written_lem, started_good, started_version, started_room, file_written}
+use Rattle.small_values.proofs.WritingLaws.{small_bad, small_no_room, small_written_lem, started_good, started_version, started_room, file_written}
 use Rattle.small_values.proofs.writing.write_small_values.Goals as goal
-use Rattle.small_values.proofs.writing.write_small_values.Goals.{Else-out-size, then-length-lt1-via-then-length-lt1, then-length-lt1-via-else-length-lt1+then-length-gt3}
+use Rattle.small_values.proofs.writing.write_small_values.Goals.{Else-out-size}
 
 -- there is room
-room : (c : Else-out-size) → let a = c.args in length (file_of a.length) ≤ length a.out.now
+room : (c : Else-out-size) → length (file_of c.in_ok-strings.strings.bytes) ≤ length c.args.out.now
 room c = omega (arith, c.file_size-size.ensures, c.if-out-size.false)
 
-pub returns-then-length-lt1 : goal.returns-then-length-lt1
-returns-then-length-lt1 c =
-    elim c.then-length-lt1.branch [
-      | then-length-lt1-via-then-length-lt1 w ↦ small_bad _ _ (too_short _ w.if-length-lt1.true)
-      | then-length-lt1-via-else-length-lt1+then-length-gt3 w ↦ small_bad _ _ (too_long_lem _ w.if-length-gt3.true)
-    ]
+pub returns-in_err-strings : goal.returns-in_err-strings
+returns-in_err-strings c =
+    let r : c.from_residual.result ≡ Err BadLength = search rules in
+    rw r (small_bad _ _ c.in_err-strings.ensures.1)
 
 pub returns-then-out-size : goal.returns-then-out-size
-returns-then-out-size c = small_no_room _ _ _ (omega arith) c.if-length-gt3.false c.file_size-size.ensures c.if-out-size.true
+returns-then-out-size c =
+    rw (← c.in_ok-strings.ensures) (small_no_room _ _ _ c.in_ok-strings.strings.short c.file_size-size.ensures c.if-out-size.true)
 
 pub returns-in_err-start : goal.returns-in_err-start
 returns-in_err-start c =
@@ -29,10 +31,12 @@ returns-in_err-start c =
 pub write_records-requires : goal.write_records-requires
 write_records-requires c =
     let s = c.start.ensures in
-    record { in_bounds = (omega arith, c.if-length-gt3.false); out_value = started_version _ _ _ (room (goal.at.write_records-requires c).Else-out-size) s; length_in_bounds = started_room _ _ _ (room (goal.at.write_records-requires c).Else-out-size) s }
+    let r = room (goal.at.write_records-requires c).Else-out-size in
+    record { out_value = started_version _ _ _ r s; length_in_bounds = started_room _ _ _ r s }
 
 pub returns : goal.returns
 returns c =
     let s = c.start.ensures in
-    small_written_lem _ _ _ _ (omega arith) c.if-length-gt3.false c.file_size-size.ensures c.if-out-size.false
-    (file_written _ _ _ (room (goal.at.returns c).Else-out-size) s c.write_records.ensures)
+    rw (← c.in_ok-strings.ensures)
+    (small_written_lem _ _ _ _ c.in_ok-strings.strings.short c.file_size-size.ensures c.if-out-size.false
+    (file_written _ _ _ (room (goal.at.returns c).Else-out-size) s c.write_records.ensures))

@@ -1,75 +1,53 @@
 -- The numbers of a date of the calendar are natural, and the sums are those of the definition.
-use mathlib.Core.Path.{◌≡◌, sym, ◌∙◌, ap}
-use mathlib.Core.Bool.{true}
-use Prim.Native.Nat.{ℕ}
+use mathlib.Core.Path.{◌≡◌}
 use native.Mathlib.Omega.{arith}
-use lib.Signed.{mag}
+use lib.IntN.{nat_abs}
 use mir.Syntax.{w64}
-use mir.Val.{of_z, to_z}
-use Rattle.calendar.specs.Gregorian.{leap, days_before, in_calendar}
-use Rattle.calendar.specs.declared.date.Date.{Date}
-use Rattle.calendar.proofs.DateLaws.{Tested, tested}
+use mir.ValLaws.{to_z-of_z}
+use Rattle.calendar.specs.Gregorian.{days_before}
+use Rattle.calendar.proofs.DateLaws.{bounds}
 use Rattle.calendar.proofs.CalendarLaws.{days_few}
-use Rattle.calendar.proofs.CountLaws.{month_size}
-use Rattle.calendar.proofs.CodeLaws.{given}
 use Rattle.calendar.proofs.date.CalendarDate.days_before.Goals as goal
+use Rattle.calendar.proofs.date.CalendarDate.days_before.Goals.{After-unsigned_abs-day}
 
-year : {r : ℕ} (d : Date) (e : in_calendar d ≡ true) → r ≡ mag (to_z w64 (of_z w64 d.year)) → r ≡ (tested d e).year
-year d e h =
-    let t : Tested d = tested d e in
-    h ∙ given _ t.year (ap (λ (d : Date). d.year) t.is) (omega (arith, t.y9999))
+year : (c : After-unsigned_abs-day) → c.unsigned_abs-year.result ≡ nat_abs c.args.self.date.year
+year c = rw (to_z-of_z w64 c.args.self.date.year (record { sfits = omega arith })) at c.unsigned_abs-year.ensures.value
 
-month : {r : ℕ} (d : Date) (e : in_calendar d ≡ true) → r ≡ mag (to_z w64 (of_z w64 d.month)) → r ≡ (tested d e).month
-month d e h =
-    let t : Tested d = tested d e in
-    h ∙ given _ t.month (ap (λ (d : Date). d.month) t.is) (omega (arith, t.valid.m12))
+month : (c : After-unsigned_abs-day) → c.unsigned_abs-month.result ≡ nat_abs c.args.self.date.month
+month c = rw (to_z-of_z w64 c.args.self.date.month (record { sfits = omega arith })) at c.unsigned_abs-month.ensures.value
 
-day : {r : ℕ} (d : Date) (e : in_calendar d ≡ true) → r ≡ mag (to_z w64 (of_z w64 d.day)) → r ≡ (tested d e).day
-day d e h =
-    let t : Tested d = tested d e in
-    h ∙ given _ t.day (ap (λ (d : Date). d.day) t.is) (omega (arith, t.valid.last, month_size (leap t.year) t.month))
+day : (c : After-unsigned_abs-day) → c.unsigned_abs-day.result ≡ nat_abs c.args.self.date.day
+day c = rw (to_z-of_z w64 c.args.self.date.day (record { sfits = omega arith })) at c.unsigned_abs-day.ensures.value
 
 pub overflow_sub-year : goal.overflow_sub-year
 overflow_sub-year c =
-    let d = c.args.self.date in
-    omega (arith, year d c.args.self.known c.mag-year.ensures, (tested d c.args.self.known).valid.y1)
-
-pub years_to-before-requires : goal.years_to-before-requires
-years_to-before-requires c =
-    let d = c.args.self.date in
-    omega (arith, year d c.args.self.known c.mag-year.ensures, (tested d c.args.self.known).y9999)
-
-pub months_before-earlier-requires : goal.months_before-earlier-requires
-months_before-earlier-requires c =
-    let d = c.args.self.date in
-    let e = month d c.args.self.known c.mag.ensures in
-    let v = (tested d c.args.self.known).valid in
-    (omega (arith, e, v.m1), omega (arith, e, v.m12))
+    let y = year (goal.at.overflow_sub-year c).After-unsigned_abs-day in
+    omega (arith, y, (bounds c.args.self.date c.args.self.known).0.y1)
 
 pub overflow_sub-result : goal.overflow_sub-result
 overflow_sub-result c =
-    let d = c.args.self.date in
-    omega (arith, day d c.args.self.known c.mag-2.ensures, (tested d c.args.self.known).valid.d1)
+    let d = day (goal.at.overflow_sub-result c).After-unsigned_abs-day in
+    omega (arith, d, (bounds c.args.self.date c.args.self.known).0.d1)
+
+pub years_to-requires : goal.years_to-requires
+years_to-requires c =
+    let y = year (goal.at.years_to-requires c).After-unsigned_abs-day in
+    omega (arith, y, (bounds c.args.self.date c.args.self.known).1)
+
+pub months_before-requires : goal.months_before-requires
+months_before-requires c =
+    let m = month (goal.at.months_before-requires c).After-unsigned_abs-day in
+    let v = (bounds c.args.self.date c.args.self.known).0 in
+    (omega (arith, m, v.m1), omega (arith, m, v.m12))
 
 pub returns : goal.returns
 unfolding days_before
 returns c =
-    let d = c.args.self.date in
-    let e = c.args.self.known in
-    rw (
-      c.years_to-before.ensures,
-      c.months_before-earlier.ensures,
-      c.is_leap.ensures,
-      year d e c.mag-year.ensures,
-      month d e c.mag.ensures,
-      day d e c.mag-2.ensures,
-    )
-    (sym (ap days_before (tested d e).is))
+    let f = (goal.at.returns c).After-unsigned_abs-day in
+    rw (c.years_to.ensures, c.months_before.ensures, year f, month f, day f)
 
 pub overflow_add-result : goal.overflow_add-result
-overflow_add-result c =
-    omega (arith, returns c, days_few c.args.self.date c.args.self.known)
+overflow_add-result c = omega (arith, returns c, days_few c.args.self.date c.args.self.known)
 
 pub overflow_add-result-2 : goal.overflow_add-result-2
-overflow_add-result-2 c =
-    omega (arith, returns c, days_few c.args.self.date c.args.self.known)
+overflow_add-result-2 c = omega (arith, returns c, days_few c.args.self.date c.args.self.known)

@@ -1,32 +1,38 @@
--- Each number is tested by itself; a year or a month below 1 is refused, whichever month's length was asked.
+-- Each number is tested by itself, as in the definition.
 use mathlib.Core.Path.{◌≡◌, refl, sym, ◌∙◌, ap}
 use Prim.Native.Nat.{◌≤◌}
 use native.Mathlib.Omega.{arith}
-use lib.IntN.{pos}
-use lib.Signed.{mag}
+use lib.IntN.{pos, nat_abs}
 use mir.Syntax.{w64}
 use mir.Val.{to_z}
 use mir.ValLaws.{to_z-of_z, to_z_pos}
-use Rattle.calendar.specs.Gregorian.{leap, month_length}
+use Rattle.calendar.specs.Gregorian.{in_calendar, leap, month_length}
 use Rattle.calendar.proofs.RangeLaws.{holds}
 use Rattle.calendar.proofs.CountLaws.{month_size}
-use Rattle.calendar.proofs.CodeLaws.{tests}
 use Rattle.calendar.proofs.date.Date.in_calendar.Goals as goal
-use Rattle.calendar.proofs.date.Date.in_calendar.Goals.{After-month_length-last, else-contains-via-then-contains+then-contains-2+else-contains-3, else-contains-via-then-contains+else-contains-2, else-contains-via-else-contains}
+use Rattle.calendar.proofs.date.Date.in_calendar.Goals.{After-month_length-last, else-contains-via-else-contains, else-contains-via-then-contains+else-contains-2}
+use Rattle.calendar.proofs.date.Date.in_calendar.Goals.{else-contains-via-then-contains+then-contains-2+else-contains-3}
 
 few : (c : After-month_length-last) → c.month_length-last.result ≤ 31
-few c = omega (arith, c.month_length-last.ensures, (month_size c.is_leap.result c.mag-2.result).1)
+few c = omega (arith, c.month_length-last.ensures, (month_size (leap c.unsigned_abs.result) c.unsigned_abs-2.result).1)
 
-last : (c : After-month_length-last) → to_z w64 c.month_length-last.result ≡ pos (month_length (leap (mag c.args.self.year)) (mag c.args.self.month))
+last : (c : After-month_length-last) → to_z w64 c.month_length-last.result ≡ pos (month_length (leap (nat_abs c.args.self.year)) (nat_abs c.args.self.month))
 last c =
     let d = c.args.self in
     to_z_pos w64 c.month_length-last.result (omega (arith, few c))
-    ∙ ap pos (rw (c.month_length-last.ensures, c.mag-2.ensures, c.is_leap.ensures, c.mag.ensures, to_z-of_z w64 d.year (record { sfits = omega arith }), to_z-of_z w64 d.month (record { sfits = omega arith })) refl)
+    ∙ ap pos (rw (
+      c.month_length-last.ensures,
+      c.unsigned_abs-2.ensures.value,
+      c.unsigned_abs.ensures.value,
+      to_z-of_z w64 d.year (record { sfits = omega arith }),
+      to_z-of_z w64 d.month (record { sfits = omega arith }),
+    ) refl)
 
 pub overflow_cast-last : goal.overflow_cast-last
 overflow_cast-last c = record { sfits = omega (arith, few (goal.at.overflow_cast-last c).After-month_length-last) }
 
 pub invariant_of-result : goal.invariant_of-result
+unfolding in_calendar
 invariant_of-result c =
     let d = c.args.self in
     let y = holds _ (pos 1) d.year (pos 9999) c.contains.ensures.value c.new.ensures.start c.new.ensures.end c.new.ensures.exhausted in
@@ -35,13 +41,13 @@ invariant_of-result c =
     let o = c.new-then-contains-2.ensures in
     let e = o.end ∙ last (goal.at.invariant_of-result c).After-month_length-last in
     let z = holds _ (pos 1) d.day _ c.contains-then-contains-2.ensures.value o.start e o.exhausted in
-    record { known = sym (tests d) ∙ (rw (sym y ∙ c.if-contains.true, sym m ∙ c.if-contains-2.true, sym z ∙ c.if-contains-3.true) refl) }
+    record { known = (rw (sym y ∙ c.if-contains.true, sym m ∙ c.if-contains-2.true, sym z ∙ c.if-contains-3.true) refl) }
 
 pub returns-else-contains : goal.returns-else-contains
+unfolding in_calendar
 returns-else-contains c =
     let d = c.args.self in
     let y = holds _ (pos 1) d.year (pos 9999) c.contains.ensures.value c.new.ensures.start c.new.ensures.end c.new.ensures.exhausted in
-    sym (tests d) ∙
     (elim c.else-contains.branch [
       | else-contains-via-then-contains+then-contains-2+else-contains-3 w ↦
           let n = w.new-then-contains.ensures in

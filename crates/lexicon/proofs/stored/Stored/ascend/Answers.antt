@@ -17,5 +17,6 @@ returns c =
     let s = c.args.self in
     let ns = dictionary_names s.bytes.now in
     let l = s.count_read ∙ (ap (number_at s.bytes.now 1) s.width_read ∙ sym (length_by s.bytes.now)) in
-    let a = all_from_yields_List (rises ns) _ _ c.all.result c.all.ensures.ran (YieldsList-from_range 1 s.count (s.count - 1) refl refl) (λ x b q k. search (rules, tests)) in
+    let a = all_from_yields_List (rises ns) _ _ c.all.result c.all.ensures.ran (YieldsList-from_range 1 s.count (s.count - 1) refl refl)
+    (λ x b q k. search (rules, tests)) in
     a ∙ (ap (λ n. list_all (rises ns) (range_with_len 1 (n - 1))) l ∙ rise_any ns)

@@ -9,7 +9,8 @@ use Rattle.lexicon.proofs.stored.Stored.name.Goals as goal
 use Rattle.lexicon.proofs.stored.Stored.name.Goals.{then-id-eq0, else-id-eq0}
 
 pub returns-then-self-id : goal.returns-then-self-id
-returns-then-self-id c = let s = c.args.self in name_none s.bytes.now s.count c.args.id (s.count_read ∙ ap (number_at s.bytes.now 1) s.width_read) c.if-self-id.true
+returns-then-self-id c =
+    let s = c.args.self in name_none s.bytes.now s.count c.args.id (s.count_read ∙ ap (number_at s.bytes.now 1) s.width_read) c.if-self-id.true
 
 pub returns : goal.returns
 returns c =
@@ -20,4 +21,6 @@ returns c =
       | else-id-eq0 w ↦ w.start-is ∙ (w.offset-start.ensures.value ∙ start_after s.bytes.now s.width id w.if-id-eq0.false)
     ] in
     let next : id + 1 + 1 ≡ id + 2 = omega arith in
-    c.part.ensures ∙ name_part s.bytes.now s.width s.count id _ _ _ s.width_read (s.count_read ∙ ap (number_at s.bytes.now 1) s.width_read) c.if-self-id.false c.text-text.ensures start (rw next at c.offset.ensures.value)
+    c.part.ensures
+    ∙ name_part s.bytes.now s.width s.count id _ _ _ s.width_read (s.count_read ∙ ap (number_at s.bytes.now 1) s.width_read)
+    c.if-self-id.false c.text-text.ensures start (rw next at c.offset.ensures.value)

@@ -2,7 +2,8 @@
 use mathlib.Core.Path.{sym, ◌∙◌}
 use Rattle.lexicon.proofs.NameLaws.{walks_again, walks_fall, walks_broken, walks_over, walks_end, to_the_end}
 use Rattle.lexicon.proofs.stored.Stored.names_good.Goals as goal
-use Rattle.lexicon.proofs.stored.Stored.names_good.Goals.{then-end-at-via-then-end-at, then-end-at-via-else-end-at+then-text-end, then-end-at-via-else-end-at+else-text-end+then-not-is_utf8}
+use Rattle.lexicon.proofs.stored.Stored.names_good.Goals.{then-end-at-via-then-end-at, then-end-at-via-else-end-at+then-text-end}
+use Rattle.lexicon.proofs.stored.Stored.names_good.Goals.{then-end-at-via-else-end-at+else-text-end+then-not-is_utf8}
 
 pub returns-then-end-at : goal.returns-then-end-at
 returns-then-end-at c =

@@ -6,4 +6,6 @@ use Rattle.lexicon.proofs.NameLaws.{Walks}
 use Rattle.lexicon.proofs.stored.Stored.names_good.Given as goal
 
 abbrev pub invariant-loop-id : goal.invariant-loop-id
-invariant-loop-id l = let s = l.self in Walks (good_names 0 (numbers s.width s.count (drop (1 + s.width + s.width) s.bytes.now)) l.text) s.bytes.now l.text s.width s.count l.at l.id
+invariant-loop-id l =
+    let s = l.self in
+    Walks (good_names 0 (numbers s.width s.count (drop (1 + s.width + s.width) s.bytes.now)) l.text) s.bytes.now l.text s.width s.count l.at l.id

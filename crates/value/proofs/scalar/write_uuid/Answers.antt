@@ -1,8 +1,0 @@
--- A UUID is stored without a length.
-use Rattle.encoding.specs.Packed.{le}
-use Rattle.value.specs.Scalar.{scalar_bytes}
-use Rattle.value.proofs.scalar.write_uuid.Goals as goal
-
-pub returns : goal.returns
-unfolding le scalar_bytes
-returns c = rw c.primitive_header.ensures at c.write_prefixed.ensures

@@ -25,14 +25,14 @@ use Rattle.refusals.specs.Decide.{enter_rows, size_told}
 use Rattle.refusals.proofs.RowLaws.{append_number, own_before, own_row, own_zero}
 use Rattle.actions.specs.declared.enter.Entered.{Entered}
 use Rattle.actions.specs.Actions.{EntersBy, Leaves, entries_put, moved_by, undo_put}
-use Rattle.actions.specs.Append.{OwnBytes, size_by}
+use Rattle.actions.specs.Append.{OwnBytes, StoredAs, size_by}
 use Rattle.actions.specs.declared.Moved.{Moved}
 use Rattle.std.specs.Prelude.{IsOk, Result, Ok, Err}
 use Rattle.semantics.specs.declared.refusal.Refusal.{Refusal}
 use Rattle.semantics.specs.declared.refusal.Refusal.TheVariants as refusal
 use Rattle.semantics.specs.Refusal.{number_told, refusal_number}
 use Rattle.semantics.proofs.RefusalLaws.{number_some}
-use Rattle.actions.proofs.EnterLaws.{enter_clears, refuses}
+use Rattle.actions.proofs.EnterLaws.{enter_clears, entered_by, refuses}
 
 -- the rows are the append's, by the scalar's own number and, where that is 0, its size
 pub append_rows_lem : (v : View) (l : Storage) (nm : Option Name) (x : Scalars) {own size : ℕ} → own ≡ first (scalar_rows x) → (own ≡ 0 → size ≡ length (scalar_bytes (scalar_of x)))
@@ -61,12 +61,27 @@ module _ {v : View} {l : Storage} {nm : Option Name} (x : Scalars) {own size : �
         → Writes v.counts.value (scalar_bytes (scalar_of x)) l.value p value → Leaves v l (append nm x) (Ok (moved_by e)) (storage_of value text ends entries undo)
     unfolding appended
     append_writes {p} {value} {entries} {undo} g h w =
-        let b = a.entered in
+        let b = entered_by a in
         let z = eq-eqb (number_of v l (append nm x)) 0 (sym (a.number ∙ append_rows_lem v l nm x o s)) in
         let c = enter_clears v l nm true false own size (sym a.number) in
         let i = s own_whole in
         let q : value ≡ write v.counts.value (scalar_bytes (scalar_of x)) l.value = rw (w.bytes, ← i, c.room) in
-        record { number = a.number ∙ append_rows_lem v l nm x o s; moved = λ p. rw (b.counts, b.elements, i); storage = rw (q, a.text_left, a.ends_left, append_rows_lem v l nm x o s, z, g, h, b.entries, b.undo) }
+        record { number = a.number ∙ append_rows_lem v l nm x o s; moved = rw (z, b.counts, b.elements, i); storage = rw (q, a.text_left, a.ends_left, append_rows_lem v l nm x o s, z, g, h, b.entries, b.undo) }
+
+-- ---- a scalar that is stored as one of fixed size
+
+module _ {s : Scalars} {x : Variant} {own size : ℕ} (t : StoredAs s x own) (h : size ≡ length (scalar_bytes (stored_variant x))) where
+  pub stored_size : own ≡ 0 → size ≡ length (scalar_bytes (scalar_of s))
+  stored_size z = h ∙ ap (λ y. length (scalar_bytes y)) (sym (t.scalar z))
+
+  pub stored_stays : {v : View} {l : Storage} {nm : Option Name} {e f : Refusal} {r : Result Moved Refusal} {text ends : List ℕ} → EntersBy v l nm true false size (first (enter_rows v l nm true false own size)) (Err e) text ends → r ≡ Err f → f ≡ e
+      → Leaves v l (append nm s) r (storage_of l.value text ends l.entries l.undo)
+  stored_stays a q i = append_stays s t.number stored_size a q i
+
+  pub stored_writes : {v : View} {l : Storage} {nm : Option Name} {e : Entered} {text ends : List ℕ} {p : Placed} {value entries undo : List ℕ} → EntersBy v l nm true false size (first (enter_rows v l nm true false own size)) (Ok e) text ends
+      → entries ≡ entries_put e l.entries → undo ≡ undo_put e l.entries l.undo → Writes v.counts.value (scalar_bytes (stored_variant x)) l.value p value
+      → Leaves v l (append nm s) (Ok (moved_by e)) (storage_of value text ends entries undo)
+  stored_writes {p = p} a g q w = append_writes s t.number stored_size a {p = p} g q (rw (t.scalar (own_whole s t.number stored_size a)) w)
 
 -- ---- a scalar whose bytes are those stored for a value, or that has its own refusal
 

@@ -25,6 +25,7 @@ use Rattle.semantics.specs.Refusal.{refusal_number}
 use Rattle.semantics.proofs.RefusalLaws.{number_some}
 use Rattle.actions.specs.declared.Moved.{Moved}
 use Rattle.refusals.specs.Decide.{ClosesBy, broken_of}
+use Rattle.refusals.proofs.NumberLaws.{largest_ok}
 use Rattle.refusals.proofs.ViewLaws.{broken_none, damaged_none, entries_within, grown_within, neither, past, undamaged_unbroken}
 use Rattle.actions.specs.Actions.{Fronts, Leaves, damaged_front, frame_of}
 use Rattle.actions.proofs.EnterLaws.{refuses}
@@ -103,7 +104,7 @@ closable {v} {l} e =
     record {
       depth = omega (arith, ltb-true 0 v.counts.depth c.1);
       damage = front_damage v l b c.1;
-      most = ap most_told (e.largest_id (sym e.number));
+      most = ap most_told (largest_ok e (sym e.number));
       number = rw (damaged_none v l (misread v l close) b, n.0, n.1, c.0, c.1);
     }
   where
@@ -130,7 +131,7 @@ unfolding closed
 leaves_closed {v} {l} {used = used} k f e =
     let z : number_of v l close ≡ 0 = sym (fronts_number k f) ∙ ap closed_number e in
     let u : used ≡ v.counts.value + length (header v l) = rw e at f.front.used in
-    record { number = sym z; moved = λ p. rw u; storage = rw (z, f.front.bytes, f.entries_left, e) }
+    record { number = sym z; moved = rw (z, u); storage = rw (z, f.front.bytes, f.entries_left, e) }
 
 -- refused: no room, or a list's data that is not as many values as it counts
 pub leaves_refused : {v : View} {l : Storage} {m : ℕ} (n : Refusal) {r : Closed} {value entries : List ℕ} → Closable v l m → Fronts v l r value entries → closed_number r ≡ refusal_number n

@@ -16,30 +16,34 @@ use Rattle.metadata.specs.Calls.{has_room}
 use Rattle.container.specs.Entries.{room_for}
 use Rattle.semantics.specs.declared.View.{View}
 use Rattle.semantics.specs.declared.Counts.{Counts}
-use Rattle.std.specs.Prelude.{Option as Optional, Some, None, Result, Ok, Err}
+use Rattle.std.specs.Prelude.{Option as Optional, Some, None, Result, Ok, Err, IfOk}
 use Rattle.semantics.specs.declared.refusal.Refusal.{Refusal}
 use Rattle.semantics.specs.Refusal.{refusal_number}
-use Rattle.semantics.proofs.RefusalLaws.{number_some}
+use Rattle.semantics.proofs.RefusalLaws.{number_some, then_none, then_ok}
 use Rattle.semantics.specs.Record.{Storage, Call, in_list, in_object, inner_size, is_open, unique_now}
 use Rattle.semantics.specs.Table.{number_of, held, live_under, names_full, entries_full, undo_full}
 use Rattle.semantics.specs.Step.{id_for, place_for, count_with, dictionary_with, ends_with, entries_with, parent_with, text_with, undo_count_with, undo_with, with_counts}
 use Rattle.refusals.specs.declared.Field.{Field}
 use Rattle.refusals.specs.declared.Field.TheVariants.{Unnamed, Fresh, Held}
 use Rattle.refusals.specs.Decide.{Decides, enter_rows, field_fresh, field_id, field_of, field_place, full_by, is_new, live_into, unkept_by}
-use Rattle.refusals.proofs.RowLaws.{enter_late, enter_unbroken, own_zero}
+use Rattle.refusals.proofs.RowLaws.{enter_late, enter_unbroken, field_ok, own_zero}
 use Rattle.refusals.proofs.ViewLaws.{few_elements}
 use Rattle.semantics.proofs.ViewLaws.{both}
 use Rattle.actions.specs.declared.enter.Entered.{Entered}
 use Rattle.actions.specs.declared.enter.Put.{Put}
 use Rattle.actions.specs.declared.Moved.{Moved}
-use Rattle.actions.specs.Actions.{EntersBy, Leaves, Registers, entries_put, fresh_put, one_more, parent_put, put_by, recorded_put, undo_put}
+use Rattle.actions.specs.Actions.{EntersBy, Leaves, Registers, counts_with, entries_put, fresh_put, moved_to, one_more, parent_put, put_by, recorded_put, undo_put}
 
 -- ---- a call that is refused changes nothing
 
 pub refuses : {v : View} {l : Storage} {c : Call} {e f : Refusal} {r : Result Moved Refusal} → refusal_number e ≡ number_of v l c → r ≡ Err f → f ≡ e → Leaves v l c r l
 refuses {v} {l} {c} {e} n q i =
     let z = ne_eqb (number_of v l c) 0 (λ p. number_some e (n ∙ p)) in
-    rw (q, i) (record { number = n; moved = λ p. absurd (number_some e (n ∙ p)); storage = rw z })
+    rw (q, i) (record { number = n; moved = then_none _ e n; storage = rw z })
+
+-- and one that is not gives what the definition says
+pub moved_ok : {v : View} {l : Storage} {c : Call} {r : Result Moved Refusal} {after : Storage} → Leaves v l c r after → number_of v l c ≡ 0 → r ≡ Ok (moved_to v l c)
+moved_ok {r = r} w = then_ok _ r w.number w.moved
 
 -- ---- a name
 
@@ -49,7 +53,7 @@ pub record Named (v : View) (l : Storage) (nm : Option Name) (m : MetadataBuilde
   pub text_left : text ≡ text_with v l nm
   pub ends_left : ends ≡ ends_with v l nm
 
-named_some : {v : View} {l : Storage} {name : Name} {new : Bool} {m : MetadataBuilder} {text ends : List ℕ}
+pub named_some : {v : View} {l : Storage} {name : Name} {new : Bool} {m : MetadataBuilder} {text ends : List ℕ}
     → new ≡ is_new v l (some name) → names_full v l (some name) ≡ false → Registers new v.counts.dictionary l.text l.ends (some name) m text ends → Named v l (some name) m text ends
 named_some {v} {l} {name} {new} {m} {text} {ends} e f r = go (held v l name) (has_room v.counts.dictionary l.text l.ends name) refl refl
   where
@@ -58,7 +62,7 @@ named_some {v} {l} {name} {new} {m} {text} {ends} e f r = go (held v l name) (ha
     go false true p q = record { dictionary = rw (r.metadata, e, p, q); text_left = rw (r.text_left, e, p, q); ends_left = rw (r.ends_left, e, p, q) }
     go false false p q = absurd (true≢false (rw (p, q) at f))
 
-named_by : {v : View} {l : Storage} {new : Bool} {m : MetadataBuilder} {text ends : List ℕ} (nm : Option Name)
+pub named_by : {v : View} {l : Storage} {new : Bool} {m : MetadataBuilder} {text ends : List ℕ} (nm : Option Name)
     → new ≡ is_new v l nm → names_full v l nm ≡ false → Registers new v.counts.dictionary l.text l.ends nm m text ends → Named v l nm m text ends
 named_by (some n) e f r = named_some e f r
 named_by none e f r = record { dictionary = r.metadata; text_left = r.text_left; ends_left = r.ends_left }
@@ -118,7 +122,7 @@ pub entered_refused : {v : View} {l : Storage} {nm : Option Name} {into opens : 
     → EntersBy v l nm into opens size n r l.text l.ends
 entered_refused {n = n} {e = e} a q i =
     let z = ne_eqb n 0 (λ p. number_some e (a.number ∙ p)) in
-    rw (q, i) (record { number = a.number; entered = tt; text_left = rw z; ends_left = rw z })
+    rw (q, i) (record { number = a.number; counts = rw z; elements = rw z; unique = refl; text_left = rw z; ends_left = rw z; entry = tt })
 
 -- a scalar that is entered is not refused
 pub size_whole : {A : Type 0} (v : View) (l : Storage) (nm : Option Name) (into opens : Bool) (own size : ℕ) {f : Field} (e : Refusal) → Decides (first (enter_rows v l nm into opens own size)) into v l nm (Ok f)
@@ -167,7 +171,7 @@ module _ (v : View) (l : Storage) (nm : Option Name) (into opens : Bool) (own si
     (a : Decides (first (enter_rows v l nm into opens own size)) into v l nm (Ok f)) where
   field_lem : f ≡ field_of into v l nm
   unfolding field_told
-  field_lem = ap field_told (a.field (sym a.number))
+  field_lem = ap field_told (field_ok a (sym a.number))
 
   place_lem : field_place f ≡ cond (live_into into v l nm) (Some (place_for v l nm)) None
   place_lem = ap field_place field_lem ∙ place_told into v l nm
@@ -263,7 +267,30 @@ module _ (v : View) (l : Storage) (nm : Option Name) (into opens : Bool) (own si
         let z = eq-eqb (first (enter_rows v l nm into opens own size)) 0 (sym a.number) in
         record {
           number = a.number;
-          entered = record { counts = rw (k, counted_entries, counted_records, named.dictionary); elements = t; unique = m; entries = puts.0; undo = records; parent = puts.1 };
+          counts = rw (z, k, counted_entries, counted_records, named.dictionary);
+          elements = rw z t;
+          unique = m;
           text_left = rw z named.text_left;
           ends_left = rw z named.ends_left;
+          entry = record { entries = puts.0; undo = records; parent = puts.1 };
         }
+
+-- what is entered, where it is carried out
+pub record EnteredBy (v : View) (l : Storage) (nm : Option Name) (into opens : Bool) (size : ℕ) (e : Entered) : Type 0 where
+  pub counts : e.counts ≡ counts_with v l nm into opens size
+  pub elements : e.elements ≡ one_more (into && in_list v) v.elements
+  pub unique : e.unique ≡ unique_now v
+  pub entries : entries_put e l.entries ≡ cond into (entries_with v l nm) l.entries
+  pub undo : undo_put e l.entries l.undo ≡ cond into (undo_with v l nm) l.undo
+  pub parent : parent_put e l.entries ≡ cond into (parent_with v l nm) None
+
+pub entered_by : {v : View} {l : Storage} {nm : Option Name} {into opens : Bool} {size n : ℕ} {e : Entered} {text ends : List ℕ} → EntersBy v l nm into opens size n (Ok e) text ends
+    → EnteredBy v l nm into opens size e
+entered_by {n = n} a =
+    let z = eq-eqb n 0 (sym a.number) in
+    record { counts = rw z at a.counts; elements = rw z at a.elements; unique = a.unique; entries = a.entry.entries; undo = a.entry.undo; parent = a.entry.parent }
+
+pub entered_ok : {v : View} {l : Storage} {nm : Option Name} {into opens : Bool} {size n : ℕ} {text ends : List ℕ} (r : Result Entered Refusal) → EntersBy v l nm into opens size n r text ends
+    → IfOk r (EnteredBy v l nm into opens size)
+entered_ok (Ok e) a = entered_by a
+entered_ok (Err f) a = tt

@@ -24,15 +24,19 @@ use Rattle.refusals.proofs.ViewLaws.{broken_finish, broken_number, damaged_none,
 use Rattle.std.specs.Prelude.{Result, Ok, Err}
 use Rattle.semantics.specs.declared.refusal.Refusal.{Refusal}
 use Rattle.semantics.specs.Refusal.{refusal_number}
-use Rattle.semantics.proofs.RefusalLaws.{number_some}
+use Rattle.semantics.proofs.RefusalLaws.{number_some, then_none, then_ok}
 use Rattle.actions.specs.declared.Ended.{Ended}
-use Rattle.actions.specs.Actions.{Ends}
+use Rattle.actions.specs.Actions.{Ends, ended_to}
 
 -- a refused finish leaves its output
 ends_refused : {v : View} {l : Storage} {out : List ℕ} {e f : Refusal} {r : Result Ended Refusal} → refusal_number e ≡ number_of v l (finish out) → r ≡ Err f → f ≡ e → Ends v l out r out
 ends_refused {v} {l} {out} {e} n q i =
     let z = ne_eqb (number_of v l (finish out)) 0 (λ p. number_some e (n ∙ p)) in
-    rw (q, i) (record { number = n; ended = λ p. absurd (number_some e (n ∙ p)); output = rw z })
+    rw (q, i) (record { number = n; ended = then_none _ e n; output = rw z })
+
+-- and one that is not gives what the definition says
+pub ended_ok : {v : View} {l : Storage} {out left : List ℕ} {r : Result Ended Refusal} → Ends v l out r left → number_of v l (finish out) ≡ 0 → r ≡ Ok (ended_to v l)
+ended_ok {r = r} w = then_ok _ r w.number w.ended
 
 -- ---- by `finish_by`: rows 2, 4 and 15, with row 1 where one of them holds, else of row 1 what every call asks
 
@@ -107,7 +111,7 @@ module _ {v : View} {l : Storage} {out : List ℕ} {r : Result ℕ FinishError} 
       let s : size ≡ size_of v.counts.floor (field_names v.counts.dictionary) (text_size v.counts.dictionary) = rw (z, e) at f.size in
       record {
         number = sym (k.number ∙ z);
-        ended = λ p. rw (s ∙ sym (dictionary_bytes_lem v l (written_intact v l out z)));
+        ended = rw (k.number, z, s ∙ sym (dictionary_bytes_lem v l (written_intact v l out z)));
         output = rw (k.number, z) (rw z at f.bytes);
       }
 

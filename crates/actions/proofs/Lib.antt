@@ -8,3 +8,4 @@ pub mod UniqueLaws
 pub mod MarkLaws
 pub mod FinishLaws
 pub mod ElementLaws
+pub mod FlagLaws

@@ -14,7 +14,9 @@ use Rattle.semantics.specs.declared.Container.{Container}
 use Rattle.semantics.specs.declared.Counts.{Counts}
 use Rattle.semantics.specs.declared.Mark.{Mark}
 use Rattle.semantics.specs.declared.View.{View}
-use Rattle.std.specs.Prelude.{Ok}
+use Rattle.std.specs.Prelude.{Result, Ok}
+use Rattle.semantics.specs.declared.refusal.Refusal.{Refusal}
+use Rattle.semantics.proofs.RefusalLaws.{then_ok}
 use Rattle.semantics.specs.Record.{Storage, set_mark, return_to, chained, container_at, is_open, mark_at, slot_of, storage_of, view_of}
 use Rattle.semantics.specs.Damage.{misplaced_inner, over_used, unchained}
 use Rattle.semantics.specs.Table.{number_of}
@@ -22,7 +24,9 @@ use Rattle.semantics.specs.Step.{entries_returned, mark_to, returned, with_marks
 use Rattle.semantics.proofs.Demand1.{none_at}
 use Rattle.refusals.proofs.ViewLaws.{Within, neither, undamaged_unbroken, within}
 use Rattle.semantics.proofs.ViewLaws.{both, inner_at, mark_between}
-use Rattle.actions.specs.Actions.{Returns, counts_at, entries_at, reachable}
+use Rattle.actions.specs.declared.Marked.{Marked}
+use Rattle.actions.specs.declared.Returned.{Returned}
+use Rattle.actions.specs.Actions.{Returns, SetsMark, counts_at, entries_at, marked_to, reachable, returned_to}
 
 -- ---- a mark
 
@@ -30,7 +34,14 @@ use Rattle.actions.specs.Actions.{Returns, counts_at, entries_at, reachable}
 pub marks_few : (v : View) (l : Storage) {n : ℕ} → n ≡ number_of v l set_mark → n ≡ 0 → v.inner.marks < 16
 marks_few v l q h = leb-false 16 v.inner.marks (neither (not (is_open v)) _ (none_at v l set_mark (sym q ∙ h) 22)).1
 
+-- it is what the definition says
+pub marked_ok : {v : View} {l : Storage} {r : Result Marked Refusal} → SetsMark v l r → number_of v l set_mark ≡ 0 → r ≡ Ok (marked_to v)
+marked_ok {r = r} w = then_ok _ r w.number w.marked
+
 -- ---- a return
+
+pub returned_ok : {v : View} {l : Storage} {p : Mark} {j : ℕ} {r : Result Returned Refusal} {after : Storage} → Returns v l p j r after → number_of v l (return_to j) ≡ 0 → r ≡ Ok (returned_to v l p j)
+returned_ok {r = r} w = then_ok _ r w.number w.returned
 
 -- the records undone are those of the definition
 entries_returned_lem : (v : View) (l : Storage) (p : Mark) → Within v l → reachable v p ≡ true → entries_at v l p ≡ entries_returned v l p
@@ -49,7 +60,7 @@ return_done {v} {l} {p} {j} q e c k =
     let z = sym q in
     let z' = eq-eqb (number_of v l (return_to j)) 0 z in
     let w = within v l (undamaged_unbroken v l (misplaced_inner v l) (none_at v l (return_to j) z 1)) in
-    record { number = q; returned = λ r. rw (c, k); storage = λ r. rw (z', e, entries_returned_lem v l p w (r z)) }
+    record { number = q; returned = rw (z', c, k); storage = λ r. rw (z', e, entries_returned_lem v l p w (r z)) }
 
 -- a mark that a return of number 0 goes to lies between its container's start and the present
 pub return_reachable : (b : Builder) (ms : List ℕ) (l : Storage) (j : ℕ) → number_of (view_of b ms) l (return_to j) ≡ 0

@@ -19,11 +19,11 @@ use Rattle.refusals.proofs.RowLaws.{open_number, register_number}
 use Rattle.actions.specs.declared.enter.Entered.{Entered}
 use Rattle.actions.specs.declared.Moved.{Moved}
 use Rattle.actions.specs.declared.Opened.{Opened}
-use Rattle.actions.specs.Actions.{EntersBy, Leaves, Opens, child_of, entries_put, moved_by, parent_put, undo_put}
-use Rattle.actions.proofs.EnterLaws.{refuses}
+use Rattle.actions.specs.Actions.{EntersBy, Leaves, Opens, child_of, entries_put, moved_by, opened_to, parent_put, undo_put}
+use Rattle.actions.proofs.EnterLaws.{entered_by, refuses}
 use Rattle.std.specs.Prelude.{Result, Ok, Err, Option as Optional}
 use Rattle.semantics.specs.declared.refusal.Refusal.{Refusal}
-use Rattle.semantics.proofs.RefusalLaws.{number_some}
+use Rattle.semantics.proofs.RefusalLaws.{number_some, then_none, then_ok}
 
 -- ---- a name registered
 
@@ -40,7 +40,8 @@ module _ {v : View} {l : Storage} (name : Name) where
   registers a =
       let z = eq-eqb (number_of v l (register name)) 0 (sym (a.number ∙ register_number v l name)) in
       let w : v.counts.value + 0 ≡ v.counts.value = omega arith in
-      record { number = a.number ∙ register_number v l name; moved = λ p. rw (a.entered.counts, a.entered.elements, w); storage = rw (a.text_left, a.ends_left, register_number v l name, z) }
+      let b = entered_by a in
+      record { number = a.number ∙ register_number v l name; moved = rw (z, b.counts, b.elements, w); storage = rw (a.text_left, a.ends_left, register_number v l name, z) }
 
 -- ---- a container opened
 module _ {v : View} {l : Storage} {nm : Option Name} (object : Bool) where
@@ -49,15 +50,19 @@ module _ {v : View} {l : Storage} {nm : Option Name} (object : Bool) where
   opens_refused {e} a q i =
       let n = a.number ∙ open_number v l nm object in
       let z = ne_eqb (number_of v l (open_in nm object)) 0 (λ p. number_some e (n ∙ p)) in
-      rw (q, i) (record { number = n; opened = λ p. absurd (number_some e (n ∙ p)); storage = rw (a.text_left, a.ends_left, open_number v l nm object, z) })
+      rw (q, i) (record { number = n; opened = then_none _ e n; storage = rw (a.text_left, a.ends_left, open_number v l nm object, z) })
 
   pub opens : {e : Entered} {text ends entries undo : List ℕ} {p : Optional Entry} {k : Container} → EntersBy v l nm true true 0 (first (enter_rows v l nm true true 0 0)) (Ok e) text ends
       → (p ≡ parent_put e l.entries) × (entries ≡ entries_put e l.entries) × (undo ≡ undo_put e l.entries l.undo) → k ≡ child_of v.counts e p object
       → Opens v l nm object (Ok (record { counts = e.counts; elements = e.elements; container = k })) (storage_of l.value text ends entries undo)
   unfolding new_container opened
   opens {e} a g c =
-      let b = a.entered in
+      let b = entered_by a in
       let n = a.number ∙ open_number v l nm object in
       let z = eq-eqb (number_of v l (open_in nm object)) 0 (sym n) in
       let w : v.counts.value + 0 ≡ v.counts.value = omega arith in
-      record { number = n; opened = λ p. rw (c, g.0, b.counts, b.elements, b.parent, b.unique, w); storage = rw (a.text_left, a.ends_left, open_number v l nm object, z, g.1, b.entries, g.2, b.undo) }
+      record { number = n; opened = rw (z, c, g.0, b.counts, b.elements, b.parent, b.unique, w); storage = rw (a.text_left, a.ends_left, open_number v l nm object, z, g.1, b.entries, g.2, b.undo) }
+
+  -- which gives what the definition says
+  pub opened_ok : {r : Result Opened Refusal} {after : Storage} → Opens v l nm object r after → number_of v l (open_in nm object) ≡ 0 → r ≡ Ok (opened_to v l nm object)
+  opened_ok {r} w = then_ok _ r w.number w.opened

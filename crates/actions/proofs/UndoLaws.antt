@@ -18,6 +18,7 @@ use Rattle.semantics.specs.Step.{count_back, entries_back, rolled_back, undo_bac
 use Rattle.std.specs.Prelude.{Option as Optional, None, Result, Ok, Err, Some}
 use Rattle.semantics.specs.declared.refusal.Refusal.{Refusal}
 use Rattle.refusals.specs.Decide.{Backs, place_back}
+use Rattle.refusals.proofs.NumberLaws.{place_ok}
 use Rattle.refusals.proofs.ViewLaws.{past}
 use Rattle.actions.specs.Actions.{Leaves, entries_undone, siblings_back}
 
@@ -48,7 +49,7 @@ pub leaves_undone : {v : View} {l : Storage} {place : Optional ℕ} {count recor
 unfolding rolled_back place_told
 leaves_undone {v} {l} {place} {es = es} u p r q t s =
     let e : number_of v l roll_back ≡ 0 = sym u.number in
-    record { number = u.number; moved = λ z. rw (p, r, t, s); storage = rw (e, q) (go (ltb 1 v.counts.depth) (ap place_told (u.place e))) }
+    record { number = u.number; moved = rw (e, p, r, t, s); storage = rw (e, q) (go (ltb 1 v.counts.depth) (ap place_told (place_ok u e))) }
   where
     go : (b : Bool) → place ≡ cond b (place_back v l v.inner.parent) None
         → storage_of l.value l.text l.ends (entries_undone l.entries place v.inner.parent) l.undo

@@ -11,6 +11,17 @@ use Rattle.semantics.specs.Damage.{over_used, grown, unchained, bad_floor}
 use Rattle.semantics.specs.Table.{number_of}
 use Rattle.semantics.proofs.Demand1.{none_at}
 use Rattle.refusals.proofs.ViewLaws.{neither}
+use Rattle.std.specs.Prelude.{Result, Ok}
+use Rattle.semantics.specs.declared.Container.{Container}
+use Rattle.semantics.specs.declared.View.{View}
+use Rattle.semantics.specs.declared.refusal.Refusal.{Refusal}
+use Rattle.semantics.specs.Step.{with_unique}
+use Rattle.semantics.proofs.RefusalLaws.{then_ok}
+use Rattle.actions.specs.Actions.{SetsUnique}
+
+-- carried out, it gives what the definition says
+pub container_ok : {v : View} {l : Storage} {u : Bool} {r : Result Container Refusal} → SetsUnique v l u r → number_of v l (uniqueness u) ≡ 0 → r ≡ Ok (with_unique v.inner u)
+container_ok {r = r} w = then_ok _ r w.number w.container
 
 -- carried out, the innermost is one of the 64
 pub unique_open : (b : Builder) (ms : List ℕ) (l : Storage) (u : Bool) → number_of (view_of b ms) l (uniqueness u) ≡ 0 → (0 < b.counts.depth) × (b.counts.depth ≤ 64)

@@ -1,6 +1,6 @@
 -- What a call over pieces of the record gives back and leaves behind, by the definitions of `semantics`; and, for the code, the parts
 -- that calls share.
-use Rattle.std.specs.Prelude.{◌≡◌, Bool, true, false, cond, not, ◌&&◌, List, [], ℕ, ◌+◌, ◌-◌, ◌*◌, eqb, leb, ltb, length, set, is_some, Option as Optional, Some, None, Result, Ok, IfOk}
+use Rattle.std.specs.Prelude.{◌≡◌, Bool, true, false, cond, not, ◌&&◌, List, [], ℕ, ◌+◌, ◌-◌, ◌*◌, eqb, leb, ltb, length, set, is_some, Option as Optional, Some, None, Result, Ok, Err, IfOk}
 use Rattle.std.proofs.Math.Option.{Option, none, some}
 use Rattle.encoding.specs.Slices.{write}
 use Rattle.metadata.specs.declared.MetadataBuilder.{MetadataBuilder}
@@ -17,7 +17,7 @@ use Rattle.semantics.specs.declared.Mark.{Mark}
 use Rattle.semantics.specs.declared.Container.{Container}
 use Rattle.semantics.specs.declared.View.{View}
 use Rattle.semantics.specs.declared.refusal.Refusal.{Refusal}
-use Rattle.semantics.specs.Refusal.{number_told}
+use Rattle.semantics.specs.Refusal.{number_told, refusal_number, then_or}
 use Rattle.semantics.specs.Record.{Storage, Call, register, append, open_in, close, roll_back, uniqueness, set_mark, return_to, finish, no_mark, in_list, unique_now}
 use Rattle.semantics.specs.Table.{header, number_of}
 use Rattle.semantics.specs.Step.{carried_out, count_with, dictionary_of, dictionary_with, ends_with, entries_closed, entries_with, finished, new_container, new_mark, parent_with, text_with, undo_count_with, undo_with, with_counts, with_marks, with_unique}
@@ -60,10 +60,14 @@ elements_put ns d n = cond (ltb 0 d) (set ns (d - 1) n) ns
 abbrev pub moved_to : View → Storage → Call → Moved
 moved_to v l c = record { counts = (carried_out v l no_mark c).counts; elements = elements_left v no_mark c }
 
--- its number, what it leaves where that is 0, and the storage
+-- and what one leaves that is refused
+abbrev pub unmoved : View → Moved
+unmoved v = record { counts = v.counts; elements = v.elements }
+
+-- the number, the counts, the elements and the storage of a call that goes to no mark
 pub record Leaves (v : View) (l : Storage) (c : Call) (r : Result Moved Refusal) (after : Storage) : Type 0 where
   pub number : number_told r ≡ number_of v l c
-  pub moved : number_of v l c ≡ 0 → r ≡ Ok (moved_to v l c)
+  pub moved : then_or (unmoved v) r ≡ cond (eqb (number_of v l c) 0) (moved_to v l c) (unmoved v)
   pub storage : after ≡ cond (eqb (number_of v l c) 0) (carried_out v l no_mark c).storage l
 
 -- of an open also the container; the elements are of the one that was innermost
@@ -71,23 +75,29 @@ abbrev pub opened_to : View → Storage → Option Name → Bool → Opened
 opened_to v l nm object =
     record { counts = (carried_out v l no_mark (open_in nm object)).counts; elements = one_more (in_list v) v.elements; container = new_container v l nm object }
 
+abbrev pub unopened : View → Opened
+unopened v = record { counts = v.counts; elements = v.elements; container = v.inner }
+
 pub record Opens (v : View) (l : Storage) (nm : Option Name) (object : Bool) (r : Result Opened Refusal) (after : Storage) : Type 0 where
   pub number : number_told r ≡ number_of v l (open_in nm object)
-  pub opened : number_of v l (open_in nm object) ≡ 0 → r ≡ Ok (opened_to v l nm object)
+  pub opened : then_or (unopened v) r ≡ cond (eqb (number_of v l (open_in nm object)) 0) (opened_to v l nm object) (unopened v)
   pub storage : after ≡ cond (eqb (number_of v l (open_in nm object)) 0) (carried_out v l no_mark (open_in nm object)).storage l
 
 -- of the uniqueness mark the innermost container
 pub record SetsUnique (v : View) (l : Storage) (u : Bool) (r : Result Container Refusal) : Type 0 where
   pub number : number_told r ≡ number_of v l (uniqueness u)
-  pub container : number_of v l (uniqueness u) ≡ 0 → r ≡ Ok (with_unique v.inner u)
+  pub container : then_or v.inner r ≡ cond (eqb (number_of v l (uniqueness u)) 0) (with_unique v.inner u) v.inner
 
 -- of a mark that is set the innermost container with it, and what it holds
 abbrev pub marked_to : View → Marked
 marked_to v = record { container = with_marks v.inner (v.inner.marks + 1); mark = new_mark v }
 
+abbrev pub unmarked : View → Marked
+unmarked v = record { container = v.inner; mark = new_mark v }
+
 pub record SetsMark (v : View) (l : Storage) (r : Result Marked Refusal) : Type 0 where
   pub number : number_told r ≡ number_of v l set_mark
-  pub marked : number_of v l set_mark ≡ 0 → r ≡ Ok (marked_to v)
+  pub marked : then_or (unmarked v) r ≡ cond (eqb (number_of v l set_mark) 0) (marked_to v) (unmarked v)
 
 -- a mark's entries lie between the innermost's starting mark and those used
 abbrev pub reachable : View → Mark → Bool
@@ -98,15 +108,24 @@ abbrev pub returned_to : View → Storage → Mark → ℕ → Returned
 returned_to v l p j =
     record { counts = (carried_out v l p (return_to j)).counts; elements = elements_left v p (return_to j); container = with_marks (with_unique v.inner p.unique) j }
 
+abbrev pub unreturned : View → Returned
+unreturned v = record { counts = v.counts; elements = v.elements; container = v.inner }
+
 pub record Returns (v : View) (l : Storage) (p : Mark) (j : ℕ) (r : Result Returned Refusal) (after : Storage) : Type 0 where
   pub number : number_told r ≡ number_of v l (return_to j)
-  pub returned : number_of v l (return_to j) ≡ 0 → r ≡ Ok (returned_to v l p j)
+  pub returned : then_or (unreturned v) r ≡ cond (eqb (number_of v l (return_to j)) 0) (returned_to v l p j) (unreturned v)
   pub storage : (number_of v l (return_to j) ≡ 0 → reachable v p ≡ true) → after ≡ cond (eqb (number_of v l (return_to j)) 0) (carried_out v l p (return_to j)).storage l
 
 -- of a finish also the bytes written, and the output
+abbrev pub ended_to : View → Storage → Ended
+ended_to v l = record { counts = finished v.counts; written = length (dictionary_of v l) }
+
+abbrev pub unended : View → Ended
+unended v = record { counts = v.counts; written = 0 }
+
 pub record Ends (v : View) (l : Storage) (out : List ℕ) (r : Result Ended Refusal) (after : List ℕ) : Type 0 where
   pub number : number_told r ≡ number_of v l (finish out)
-  pub ended : number_of v l (finish out) ≡ 0 → r ≡ Ok (record { counts = finished v.counts; written = length (dictionary_of v l) })
+  pub ended : then_or (unended v) r ≡ cond (eqb (number_of v l (finish out)) 0) (ended_to v l) (unended v)
   pub output : after ≡ cond (eqb (number_of v l (finish out)) 0) (write 0 (dictionary_of v l) out) out
 
 -- ---- a name added where it is new
@@ -173,22 +192,76 @@ abbrev pub counts_with : View → Storage → Option Name → Bool → Bool → 
 counts_with v l nm into opens size =
     with_counts v.counts (v.counts.value + size) (cond into (count_with v l nm) v.counts.entries) (cond into (undo_count_with v l nm) v.counts.undo) (one_more opens v.counts.depth) (dictionary_with v l nm)
 
--- what a register, an append or an open leaves, up to the entry and the value's bytes; a register, of which `into` is false,
--- puts no entry
-pub record EnteredBy (v : View) (l : Storage) (nm : Option Name) (into opens : Bool) (size : ℕ) (e : Entered) : Type 0 where
-  pub counts : e.counts ≡ counts_with v l nm into opens size
-  pub elements : e.elements ≡ one_more (into && in_list v) v.elements
-  pub unique : e.unique ≡ unique_now v
+-- the entry that it hands on, by what `note` makes of it; a register, of which `into` is false, puts none
+pub record Enters (v : View) (l : Storage) (nm : Option Name) (into : Bool) (e : Entered) : Type 0 where
   pub entries : entries_put e l.entries ≡ cond into (entries_with v l nm) l.entries
   pub undo : undo_put e l.entries l.undo ≡ cond into (undo_with v l nm) l.undo
   pub parent : parent_put e l.entries ≡ cond into (parent_with v l nm) None
 
--- of number n
+-- the counts, the elements and the uniqueness mark that it gives, or where it is refused those that its caller has
+abbrev pub counts_told : View → Result Entered Refusal → Counts
+counts_told v (Ok e) = e.counts
+counts_told v (Err r) = v.counts
+
+abbrev pub elements_told : View → Result Entered Refusal → ℕ
+elements_told v (Ok e) = e.elements
+elements_told v (Err r) = v.elements
+
+abbrev pub unique_told : View → Result Entered Refusal → Bool
+unique_told v (Ok e) = e.unique
+unique_told v (Err r) = unique_now v
+
+-- what a register, an append or an open of number n leaves, up to the entry and the value's bytes
 pub record EntersBy (v : View) (l : Storage) (nm : Option Name) (into opens : Bool) (size n : ℕ) (r : Result Entered Refusal) (text ends : List ℕ) : Type 0 where
   pub number : number_told r ≡ n
-  pub entered : IfOk r (EnteredBy v l nm into opens size)
+  pub counts : counts_told v r ≡ cond (eqb n 0) (counts_with v l nm into opens size) v.counts
+  pub elements : elements_told v r ≡ cond (eqb n 0) (one_more (into && in_list v) v.elements) v.elements
+  pub unique : unique_told v r ≡ unique_now v
   pub text_left : text ≡ cond (eqb n 0) (text_with v l nm) l.text
   pub ends_left : ends ≡ cond (eqb n 0) (ends_with v l nm) l.ends
+  pub entry : IfOk r (Enters v l nm into)
+
+-- the same where a refusal is said by its number, of any flags and any own number of the scalar's: none where it is carried out
+abbrev pub refused_by : Result Entered ℕ → Optional ℕ
+refused_by (Ok e) = None
+refused_by (Err k) = Some k
+
+abbrev pub counts_or : View → Result Entered ℕ → Counts
+counts_or v (Ok e) = e.counts
+counts_or v (Err k) = v.counts
+
+abbrev pub elements_or : View → Result Entered ℕ → ℕ
+elements_or v (Ok e) = e.elements
+elements_or v (Err k) = v.elements
+
+abbrev pub unique_or : View → Result Entered ℕ → Bool
+unique_or v (Ok e) = e.unique
+unique_or v (Err k) = unique_now v
+
+pub record EntersNumber (v : View) (l : Storage) (nm : Option Name) (into opens : Bool) (size n : ℕ) (r : Result Entered ℕ) (text ends : List ℕ) : Type 0 where
+  pub number : refused_by r ≡ cond (eqb n 0) None (Some n)
+  pub counts : counts_or v r ≡ cond (eqb n 0) (counts_with v l nm into opens size) v.counts
+  pub elements : elements_or v r ≡ cond (eqb n 0) (one_more (into && in_list v) v.elements) v.elements
+  pub unique : unique_or v r ≡ unique_now v
+  pub text_left : text ≡ cond (eqb n 0) (text_with v l nm) l.text
+  pub ends_left : ends ≡ cond (eqb n 0) (ends_with v l nm) l.ends
+  pub entry : IfOk r (Enters v l nm into)
+
+-- for the code: that answer from `enter_over`'s, which is of a register where one opens but enters nothing; the container is one more then
+abbrev pub deeper : Bool → Entered → Entered
+deeper alone e =
+    record {
+      counts = with_counts e.counts e.counts.value e.counts.entries e.counts.undo (one_more alone e.counts.depth) e.counts.dictionary;
+      elements = e.elements;
+      id = e.id;
+      offset = e.offset;
+      put = e.put;
+      unique = e.unique;
+    }
+
+abbrev pub said : Bool → Result Entered Refusal → Result Entered ℕ
+said alone (Ok e) = Ok (deeper alone e)
+said alone (Err r) = Err (refusal_number r)
 
 abbrev pub moved_by : Entered → Moved
 moved_by e = record { counts = e.counts; elements = e.elements }

@@ -25,6 +25,7 @@
 mod append;
 mod dictionary;
 mod enter;
+mod flags;
 mod header;
 mod mark;
 mod open;
@@ -35,6 +36,7 @@ mod unique;
 pub use append::append_over;
 pub use dictionary::finish_over;
 pub use enter::{Entered, Put, enter_over, note};
+pub use flags::enter_by_number;
 pub use header::close_over;
 pub use mark::{mark_over, return_over};
 pub use open::{child, open_over, register};

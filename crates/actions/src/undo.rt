@@ -54,8 +54,11 @@ pub fn rollback_over(
 fn put_back(place: Option<usize>, parent: Option<Entry>, entries: &mut [usize])
     ensures { entries.new ≡ entries_undone entries.old place parent }
 {
-    if let (Some(place), Some(former)) = (place, parent) {
-        replace_offset(entries, place, former.offset);
+    match (place, parent) {
+        (None, _) | (_, None) => {}
+        (Some(place), Some(former)) => {
+            replace_offset(entries, place, former.offset);
+        }
     }
 }
 

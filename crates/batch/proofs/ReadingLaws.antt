@@ -1,7 +1,7 @@
 -- Reading: one step by places is one step of the definition.
 use mathlib.Core.Path.{◌≡◌, refl, sym, ◌∙◌, ap}
 use mathlib.Core.Bool.{Bool, true, false, cond, ◌||◌, true≢false}
-use mathlib.Core.List.{List}
+use mathlib.Core.List.{List, []}
 use Prim.Native.Nat.{ℕ, ◌+◌, ◌-◌, ◌≤◌, ◌<◌, max, min}
 use native.Mathlib.Omega.{arith}
 use lib.Dec.{ltb, leb}
@@ -9,12 +9,13 @@ use borrow.Author.Tests.{lt-ltb, le-ltb, leb-true, leb-false, ltb-false}
 use lib.ListN.{length, take, drop, length-take, length-drop, drop_of_length-le}
 use lib.Seq.{take_all}
 use Rattle.encoding.specs.Rows.{first, order, in_order}
-use Rattle.std.specs.Prelude.{Ok, Err}
+use Rattle.std.specs.Prelude.{Result, Ok, Err}
+use Rattle.batch.specs.declared.NoBatch.{NoBatch}
 use Rattle.batch.specs.declared.Step.{Step}
 use Rattle.batch.specs.declared.Step.TheVariants.{Whole, Bad, Tail}
 use Rattle.batch.specs.Layout.{big_number}
 use Rattle.batch.specs.Writing.{no_batch}
-use Rattle.batch.specs.Reading.{count_at, present, body_of, size_in, misfit, refusal, step_from, step_at, step_number, bad_at, step_rows, read_number, read_rows}
+use Rattle.batch.specs.Reading.{count_at, present, body_of, size_in, misfit, refusal, step_from, step_at, step_number, bad_at, step_rows, read_number, read_rows, dictionary_in, value_in, is_whole}
 
 pub step_in_order : (file : List ℕ) (place : ℕ) → in_order order (step_rows file place) ≡ true
 step_in_order file place = refl
@@ -117,6 +118,19 @@ within file place d v n e = go (no_batch file) e
     go : (t : Bool) → Ok (Whole d v n) ≡ cond t (Err refusal) (Ok (step_from file (max place 1))) → Within file d v n
     go true q = let z : ◌≡◌ {A = ℕ} 0 1 = cc in absurd (omega arith)
     go false q = let w : Whole d v n ≡ step_from file (max place 1) = cc in within_from file (max place 1) d v n w
+
+-- no bytes of the file where no whole record stands
+pub no_dictionary : (file : List ℕ) (s : Result Step NoBatch) → is_whole s ≡ false → [] ≡ dictionary_in file s
+no_dictionary file (Ok (Whole d v n)) e = absurd (true≢false e)
+no_dictionary file (Ok (Bad n)) e = refl
+no_dictionary file (Ok (Tail n)) e = refl
+no_dictionary file (Err x) e = refl
+
+pub no_value : (file : List ℕ) (s : Result Step NoBatch) → is_whole s ≡ false → [] ≡ value_in file s
+no_value file (Ok (Whole d v n)) e = absurd (true≢false e)
+no_value file (Ok (Bad n)) e = refl
+no_value file (Ok (Tail n)) e = refl
+no_value file (Err x) e = refl
 
 -- ---- a step's number
 

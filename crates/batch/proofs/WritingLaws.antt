@@ -2,17 +2,17 @@
 use mathlib.Core.Path.{◌≡◌, refl, sym, ◌∙◌}
 use mathlib.Core.Bool.{true, false, not}
 use mathlib.Core.List.{List, [], ◌∷◌, ◌++◌, append_assoc, append-nil}
-use Prim.Native.Nat.{ℕ, zero, suc, ◌+◌, ◌-◌, ◌^◌, ◌≤◌, ◌<◌}
+use Prim.Native.Nat.{ℕ, zero, suc, ◌+◌, ◌^◌, ◌≤◌, ◌<◌}
 use native.Mathlib.Omega.{arith}
 use lib.Dec.{eqb}
 use borrow.Author.Tests.{lt-ltb, le-ltb, le-leb, lt-leb, eq-eqb, ne_eqb}
-use lib.ListN.{length, take, drop, get_or, set, length-append, drop_of_length-le}
+use lib.ListN.{length, take, drop, get_or, set, length-append, length-drop, drop_of_length-le}
 use lib.Seq.{drop-drop, take_at, drop_at}
 use Rattle.encoding.specs.Rows.{first, order, in_order}
 use Rattle.encoding.specs.Slices.{write}
 use Rattle.encoding.specs.declared.slices.NoRoom as refused
 use Rattle.std.specs.Prelude.{Ok, Err}
-use Rattle.encoding.proofs.SliceLaws.{write_one}
+use Rattle.encoding.proofs.SliceLaws.{write_one, write_write}
 use Rattle.std.specs.Prelude.{Ok, Err}
 use Rattle.batch.specs.declared.AddError.{AddError}
 use Rattle.batch.specs.declared.AddError.TheVariants.{Damaged, NoBatch, NoRoom}
@@ -78,18 +78,17 @@ behind x y b k n e = rw (take_at x y k e, drop_at x y k e) (sym (append_assoc x 
 pub filled : (part a b d v : List ℕ) → length a ≡ 4 → length b ≡ 4 → length part ≡ 8 + (length d + length v)
     → let one = a ++ drop 4 part in
     let two = take 4 one ++ (b ++ drop 4 (drop 4 one)) in
-    let three = take 8 two ++ (d ++ drop (8 + length d - 8) (drop 8 two)) in
-    take (8 + length d) three ++ (v ++ drop (length three - (8 + length d)) (drop (8 + length d) three)) ≡ a ++ (b ++ (d ++ v))
+    write (8 + length d) v (write 8 d two) ≡ a ++ (b ++ (d ++ v))
+unfolding write
 filled part a b d v e f h =
+    let rest = drop 4 (drop 4 part) in
+    let front = (a ++ b) ++ rest in
     let m : length (a ++ b) ≡ 8 = simp length-append (omega arith) in
-    let n : length ((a ++ b) ++ d) ≡ 8 + length d = length-append (a ++ b) d ∙ (omega arith) in
-    let rest = drop (8 + length d - 8) (drop 4 (drop 4 part)) in
-    let q = behind a (drop 4 part) b 4 4 e in
-    let r = behind (a ++ b) (drop 4 (drop 4 part)) d 8 (8 + length d - 8) m in
-    let l = length-append ((a ++ b) ++ d) rest in
-    let t = behind ((a ++ b) ++ d) rest v (8 + length d) (length (((a ++ b) ++ d) ++ rest) - (8 + length d)) n in
-    let z : drop (length (((a ++ b) ++ d) ++ rest) - (8 + length d)) rest ≡ [] = drop_of_length-le rest (omega arith) in
-    rw (q, r, t, z) (simp (append-nil, append_assoc))
+    let n : length front ≡ 8 + (length d + length v) = simp (length-append, length-drop) (omega arith) in
+    let k = length-append d v in
+    let z : drop (8 + length (d ++ v)) front ≡ [] = drop_of_length-le front (omega arith) in
+    let w = write_write front d v 8 (omega arith) in
+    rw (behind a (drop 4 part) b 4 4 e) (w ∙ rw (take_at (a ++ b) rest 8 m, z) (simp (append-nil, append_assoc)))
 
 -- and a part that is filled is written
 pub put_part : (file bytes : List ℕ) (at n : ℕ) → n ≡ length bytes → take at file ++ (bytes ++ drop n (drop at file)) ≡ write at bytes file

@@ -9,7 +9,7 @@ ghost use Rattle.batch.specs.declared.AddError.TheVariants as add_error;
 mod reading;
 mod writing;
 
-pub use reading::{parts_at, record_at};
+pub use reading::{dictionary_at, parts_at, record_at, value_at};
 pub use writing::{add, start};
 
 // The bytes are no batch: there are none, or they are of another version.

@@ -33,6 +33,30 @@ pub fn parts_at(file: &[u8], place: usize) -> Option<(&[u8], &[u8])>
     }
 }
 
+// The dictionary of the whole record at a place, as the part of the file that it occupies; no bytes where there is none.
+// Kept (1d, 6; no plainer): a place as `record_at` takes it; where there is none the definition says no bytes.
+#[tactic(auto, using(crate::proofs::ReadingLaws::no_dictionary))]
+pub fn dictionary_at(file: &[u8], place: usize) -> &[u8]
+    ensures { result.now ≡ dictionary_in file.now (step_at file.now place) }
+{
+    match parts_at(file, place) {
+        Some((dictionary, _)) => dictionary,
+        None => &[],
+    }
+}
+
+// The same for its value.
+// Kept (1d, 2, 6; no plainer): as `dictionary_at`, of the record's other part.
+#[tactic(auto, using(crate::proofs::ReadingLaws::no_value))]
+pub fn value_at(file: &[u8], place: usize) -> &[u8]
+    ensures { result.now ≡ value_in file.now (step_at file.now place) }
+{
+    match parts_at(file, place) {
+        Some((_, value)) => value,
+        None => &[],
+    }
+}
+
 // Kept (6; no plainer): a place of the file, as in `record_at`.
 fn record_from(file: &[u8], at: usize) -> Step
     ensures { result ≡ step_from file.now at }

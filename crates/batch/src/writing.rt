@@ -5,7 +5,7 @@ ghost use Rattle.batch.specs.Layout.{record_of, record_bytes};
 ghost use Rattle.batch.specs.Writing.{Adds, Starts};
 
 use crate::{AddError, check_version};
-use encoding::slices::NoRoom;
+use encoding::slices::{NoRoom, put_slice};
 
 // An empty batch: the version byte.
 pub fn start(file: &mut [u8]) -> Result<(), NoRoom>
@@ -55,6 +55,6 @@ fn write_record(part: &mut [u8], dictionary: &[u8], value: &[u8])
     let count = 4 + (size + value.len());
     part[..4].copy_from_slice(&(count as u32).to_be_bytes());
     part[4..8].copy_from_slice(&(size as u32).to_be_bytes());
-    part[8..8 + size].copy_from_slice(dictionary);
-    part[8 + size..].copy_from_slice(value);
+    put_slice(part, 8, dictionary);
+    put_slice(part, 8 + size, value);
 }

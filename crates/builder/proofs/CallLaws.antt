@@ -33,8 +33,11 @@ use Rattle.actions.specs.declared.Returned.{Returned}
 use Rattle.actions.specs.declared.Ended.{Ended}
 use Rattle.actions.specs.Actions.{Leaves, Opens, SetsUnique, SetsMark, Returns, Ends, elements_put}
 use Rattle.actions.proofs.ElementLaws.{Stays, elements_left_lem, elements_opened}
-use Rattle.actions.proofs.MarkLaws.{return_reachable}
-use Rattle.actions.proofs.UniqueLaws.{unique_open}
+use Rattle.actions.proofs.EnterLaws.{moved_ok}
+use Rattle.actions.proofs.FinishLaws.{ended_ok}
+use Rattle.actions.proofs.MarkLaws.{marked_ok, return_reachable, returned_ok}
+use Rattle.actions.proofs.OpenLaws.{opened_ok}
+use Rattle.actions.proofs.UniqueLaws.{container_ok, unique_open}
 
 -- ---- a step by its number
 
@@ -82,7 +85,7 @@ module _ (b : Builder) (ms : List ℕ) (l : Storage) {v : View} (p : v ≡ view_
       let w = rw p at q in
       let y = sym w.number in
       let z = eq-eqb (number_of (view_of b ms) l c) 0 y in
-      let h = ap (told r) (w.moved y) in
+      let h = ap (told r) (moved_ok w y) in
       let k = stays (view_of b ms) l c ms b.containers s in
       step_done b ms l c y (rw (d, elements_left_lem b ms l c s h, h, k.0, k.2) refl) (rw (w.storage, z, k.0) refl) (sym k.1)
 
@@ -109,7 +112,7 @@ module _ (b : Builder) (ms : List ℕ) (l : Storage) {v : View} (p : v ≡ view_
       let w = rw p at q in
       let y = sym w.number in
       let z = eq-eqb (number_of (view_of b ms) l (open_in nm object)) 0 y in
-      step_done b ms l (open_in nm object) y (rw (d, a, o, ap (told r) (w.opened y), elements_opened b ms) refl) (rw (w.storage, z) refl) refl
+      step_done b ms l (open_in nm object) y (rw (d, a, o, ap (told r) (opened_ok object w y), elements_opened b ms) refl) (rw (w.storage, z) refl) refl
 
 -- ---- a call that changes the innermost container
 
@@ -144,7 +147,7 @@ module _ (b : Builder) (ms : List ℕ) (l : Storage) {v : View} (p : v ≡ view_
   unique_done {u} {k} q d =
       let w = rw p at q in
       let y = sym w.number in
-      step_done b ms l (uniqueness u) y (rw (d, ap (told k) (w.container y)) refl) refl refl
+      step_done b ms l (uniqueness u) y (rw (d, ap (told k) (container_ok w y)) refl) refl refl
 
   -- a mark
   pub mark_inside : {r : Marked} → SetsMark v l (Ok r) → Inside b
@@ -158,7 +161,7 @@ module _ (b : Builder) (ms : List ℕ) (l : Storage) {v : View} (p : v ≡ view_
   mark_done {r} q t d =
       let w = rw p at q in
       let y = sym w.number in
-      let h = ap (told r) (w.marked y) in
+      let h = ap (told r) (marked_ok w y) in
       step_done b ms l set_mark y (rw (d, h) refl) refl (rw (t, h) refl)
 
   -- a return, to the mark that stands in the table
@@ -181,7 +184,7 @@ module _ (b : Builder) (ms : List ℕ) (l : Storage) {v : View} (p : v ≡ view_
       let i = lt-ltb 0 b.counts.depth (return_inside q).0 in
       let s = rw p at (return_storage a f q) in
       let k = rw a at f in
-      step_done b ms l (return_to j) y (rw (d, n, ap (told r) (w.returned y), k, i) refl) (rw (s, z, k) refl) refl
+      step_done b ms l (return_to j) y (rw (d, n, ap (told r) (returned_ok w y), k, i) refl) (rw (s, z, k) refl) refl
 
   -- ---- a finish
   pub does_finished : (out : List ℕ) {left : List ℕ} {r : Ended} → Ends v l out (Ok r) left
@@ -191,7 +194,7 @@ module _ (b : Builder) (ms : List ℕ) (l : Storage) {v : View} (p : v ≡ view_
       let w = rw p at q in
       let y = sym w.number in
       let z = eq-eqb (number_of (view_of b ms) l (finish out)) 0 y in
-      rw (ap (told r) (w.ended y), w.output, z) (refl, refl, refl, refl, refl, refl)
+      rw (ap (told r) (ended_ok w y), w.output, z) (refl, refl, refl, refl, refl, refl)
 
   pub finish_refused : (out : List ℕ) {left : List ℕ} {e f : Refusal} {r : Result Finished Refusal} → Ends v l out (Err e) left → r ≡ Err f → f ≡ e
       → Finishes r ms l left (state b ms l) (finish out)

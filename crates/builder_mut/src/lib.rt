@@ -21,15 +21,18 @@
 // the record that came back; a refused call stores none. Beside them stands one struct of references, with the same calls as its methods.
 #![tactic(auto)]
 
+mod lending;
 mod thin;
 mod variant_builder;
 
+use calendar::civil::Civil;
 use marks::NUMBERS;
 use semantics::Builder;
 pub use thin::{
     add_field_name, append, close, finish, mark, new_list, new_object, return_to, rollback,
     with_validate_unique_fields,
 };
+use value::variant::{Variant, VariantBytes};
 
 // The builder's record, and the table of marks and the slices that it is lent.
 #[derive(Drop)]
@@ -41,4 +44,23 @@ pub struct VariantBuilder<'a> {
     pub ends: &'a mut [usize],
     pub entries: &'a mut [usize],
     pub undo: &'a mut [usize],
+}
+
+// A call to be made. Its name, bytes, UUID and output stand beside it.
+#[derive(Clone, Copy)]
+pub enum Call {
+    AddFieldName,
+    AppendValue(Variant),
+    AppendBytes(VariantBytes),
+    AppendUuid,
+    NewList,
+    NewObject,
+    Close,
+    Rollback,
+    WithValidateUniqueFields(bool),
+    Finish,
+    AppendCivil(Civil),
+    AppendPacked(u8),
+    Mark,
+    ReturnTo(usize),
 }

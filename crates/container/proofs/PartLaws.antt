@@ -146,7 +146,7 @@ tail_held names j to l h e k =
     let n : length rest / 2 - 1 ≡ to - (j + 1) = omega arith in
     rw (n, part_entries j s l 1 (to - (j + 1)) (omega arith)) k
 
--- ---- the first entry moved to place k
+-- ---- the first entry moved to place k, by the library's `copy_within`
 
 copied : (l : List ℕ) (k : ℕ) → 2 * (k + 1) ≤ length l → copy_within l 2 (2 * (k + 1)) 0 ≡ write 0 (take (2 * k) (drop 2 l)) l
 unfolding write

@@ -38,12 +38,13 @@ use Rattle.actions.specs.declared.Opened.{Opened}
 use Rattle.actions.specs.declared.Ended.{Ended}
 use Rattle.actions.specs.declared.enter.Entered.{Entered}
 use Rattle.actions.specs.Actions.{EntersBy, Leaves, Returns, SetsMark, SetsUnique, Ends, child_of, elements_put, entries_put, moved_by, parent_put, undo_put}
-use Rattle.actions.proofs.EnterLaws.{enter_clears}
+use Rattle.actions.proofs.EnterLaws.{enter_clears, entered_by, moved_ok}
 use Rattle.actions.specs.Append.{OwnBytes, size_by}
 use Rattle.actions.proofs.AppendLaws.{append_stays, append_writes, own_entered, own_number, own_size}
-use Rattle.actions.proofs.MarkLaws.{return_reachable}
-use Rattle.actions.proofs.OpenLaws.{opens, opens_refused, registers, registers_refused}
-use Rattle.actions.proofs.UniqueLaws.{unique_open}
+use Rattle.actions.proofs.FinishLaws.{ended_ok}
+use Rattle.actions.proofs.MarkLaws.{marked_ok, return_reachable, returned_ok}
+use Rattle.actions.proofs.OpenLaws.{opened_ok, opens, opens_refused, registers, registers_refused}
+use Rattle.actions.proofs.UniqueLaws.{container_ok, unique_open}
 use Rattle.actions.proofs.ElementLaws.{Stays, elements_left_lem, elements_opened}
 use Rattle.ffi.specs.Words.{builder_of, container_left, containers_of, counts_of, elements_of, inner_left, state_of, words_left, DoesWords, EntersWords, FinishesWords, Puts, PutsContainer, PutsCounts, PutsElements, PutsInner}
 use Rattle.ffi.proofs.WordLaws.{containers_length, elements_length}
@@ -102,7 +103,7 @@ does_moved ws ms l c (Ok m) {e} s p q w =
     let q' = rw p at q in
     let z = sym q'.number in
     let n = eq-eqb (number_of (view_of (builder_of ws) ms) l c) 0 z in
-    let h = ap (told m) (q'.moved z) in
+    let h = ap (told m) (moved_ok q' z) in
     let k = still ws ms l c s in
     rw w.number
     (carried ws ms l c z (rw (k.mark, k.containers) (w.put.builder ∙ (rw (elements_left_lem (builder_of ws) ms l c s h, h) refl))) (sym k.marks) (rw k.mark (q'.storage ∙ rw n refl))
@@ -123,7 +124,7 @@ moved_of (Err f) = Err f
 puts_entered : {ws us ms : List ℕ} {l : Storage} {nm : Option Name} {into : Bool} {own size : ℕ} (r : Result Entered Refusal) {text ends : List ℕ} → EntersWords ws us ms l nm into false own size r text ends
     → Puts (moved_of r) (number_told r) ws us
 puts_entered {ws} {us} (Ok e) w =
-    let d : e.counts.depth ≡ (counts_of ws).depth = rw w.enters.entered.counts in
+    let d : e.counts.depth ≡ (counts_of ws).depth = rw (entered_by w.enters).counts in
     record { number = refl; put = subst (λ n. PutsInner ws us e.counts n e.elements) (sym d) w.put; kept = tt }
 puts_entered (Err f) w = record { number = refl; put = tt; kept = w.kept }
 
@@ -214,7 +215,7 @@ module _ (ws ms : List ℕ) (l : Storage) (nm : Option Name) (object : Bool) {us
       let q = opens object w.enters g c in
       let n = sym q.number in
       let t = eq-eqb (number_of (view_of (builder_of ws) ms) l (open_in nm object)) 0 n in
-      let v = ap (told (record { counts = e.counts; elements = e.elements; container = k })) (q.opened n) in
+      let v = ap (told (record { counts = e.counts; elements = e.elements; container = k })) (opened_ok object q n) in
       let elements = ap (λ (o : Opened). o.elements) v in
       let container = ap (λ (o : Opened). o.container) v in
       let counts = ap (λ (o : Opened). o.counts) v in
@@ -249,7 +250,7 @@ module _ (ws ms : List ℕ) (l : Storage) (u : Bool) {v : View} {k : Container} 
   unique_done d =
       let w = rw p at q in
       let n = sym w.number in
-      let h = ap (told k) (w.container n) in
+      let h = ap (told k) (container_ok w n) in
       inner_done ws ms l (uniqueness u) (λ b. refl) n (rw p at unique_inside) (rw p at d) (rw h refl)
 
 -- ---- marks
@@ -276,7 +277,7 @@ module _ (ws ms : List ℕ) (l : Storage) {v : View} {r : Marked} (p : v ≡ vie
   mark_done d e =
       let w = rw p at q in
       let n = sym w.number in
-      let h = ap (told r) (w.marked n) in
+      let h = ap (told r) (marked_ok w n) in
       let k = ap (λ (x : Marked). x.container) h in
       let t = rw (p, k, ap (λ (x : Marked). x.mark) h) at e in
       inner_done ws ms l set_mark (λ b. refl) n (rw p at mark_inside) (rw p at d) (rw (k, t) refl)
@@ -309,7 +310,7 @@ module _ (ws ms : List ℕ) (l : Storage) (j : ℕ) {v : View} {m : Mark} {e : S
       let o = rw p at (return_inside q) in
       let d = (counts_of ws).depth - 1 in
       let y' = rw p at y in
-      let h = ap (told r) (w.returned n) in
+      let h = ap (told r) (returned_ok w n) in
       let c = ap (λ (t : Returned). t.counts) h in
       let m' = ap (λ (t : Returned). t.elements) h in
       let k = ap (λ (t : Returned). t.container) h in
@@ -335,7 +336,7 @@ module _ (ws ms : List ℕ) (l : Storage) (out : List ℕ) (before : ℕ) {v : V
       let w = rw p at q in
       let n = sym w.number in
       let z = eq-eqb (number_of (view_of (builder_of ws) ms) l (finish out)) 0 n in
-      let h = ap (told r) (w.ended n) in
+      let h = ap (told r) (ended_ok w n) in
       let c = ap (λ (t : Ended). t.counts) h in
       record {
         does = carried ws ms l (finish out) n (m.builder ∙ (rw c refl)) refl refl (m.words ∙ (rw c refl));

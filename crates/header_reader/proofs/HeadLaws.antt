@@ -50,23 +50,26 @@ list_split : (v : List ℕ) → is_list_head v ≡ (is_whole 3 32 v && same (lis
 unfolding is_list_head
 list_split v = grouped (eqb (get_or v 0 0 % 4) 3) (ltb (get_or v 0 0) 32) (eqb (measured v) (length v)) (same (list_offsets v) (starts_of (drop (list_from v) v)))
 
-list_within : (v : List ℕ) → is_whole 3 32 v ≡ true → list_from v ≤ length v
+pub list_room : (v : List ℕ) → get_or v 0 0 % 4 ≡ 3 → measured v ≡ length v → list_from v ≤ length v
 unfolding measured value_length container_length
+list_room v h e =
+    let x = whole_within (length v) (value_length v) (not_empty v (omega arith)) e in
+    let y = rw (eq-eqb (get_or v 0 0 % 4) 3 h) at x in
+    omega arith
+
+list_within : (v : List ℕ) → is_whole 3 32 v ≡ true → list_from v ≤ length v
 list_within v e =
     let a = both {a = eqb (get_or v 0 0 % 4) 3} e in
     let b = both {a = ltb (get_or v 0 0) 32} a.1 in
-    let h = eqb-true (get_or v 0 0 % 4) 3 a.0 in
-    let x = whole_within (length v) (value_length v) (not_empty v (omega arith)) (eqb-true (measured v) (length v) b.1) in
-    let y = rw (eq-eqb (get_or v 0 0 % 4) 3 h) at x in
-    omega arith
+    list_room v (eqb-true (get_or v 0 0 % 4) 3 a.0) (eqb-true (measured v) (length v) b.1)
 
 module _ (v : List ℕ) {t : Bool} (e : t ≡ is_whole 3 32 v) where
   pub list_other : t ≡ false → None ≡ list_head v
   list_other q = rw (list_split v, ← e, q)
 
   module _ (q : t ≡ true) where
-    pub list_room : list_from v ≤ length v
-    list_room = list_within v (sym e ∙ q)
+    pub list_fits : list_from v ≤ length v
+    list_fits = list_within v (sym e ∙ q)
 
     -- of the offsets, beside the data as the code cuts them
     module _ {ns : List ℕ} {from : ℕ} {u : Bool} (a : ns ≡ list_offsets v) (b : from ≡ list_from v) (f : u ≡ same ns (starts_of (take (length v - from) (drop from v)))) where
@@ -82,23 +85,26 @@ object_split : (names : List Name) (v : List ℕ) → is_object_head names v ≡
 unfolding is_object_head
 object_split names v = grouped (eqb (get_or v 0 0 % 4) 2) (ltb (get_or v 0 0) 128) (eqb (measured v) (length v)) (offsets_good v && ids_good names (stored_ids v))
 
-object_within : (v : List ℕ) → is_whole 2 128 v ≡ true → object_from v ≤ length v
+pub object_room : (v : List ℕ) → get_or v 0 0 % 4 ≡ 2 → measured v ≡ length v → object_from v ≤ length v
 unfolding measured value_length container_length
+object_room v h e =
+    let x = whole_within (length v) (value_length v) (not_empty v (omega arith)) e in
+    let y = rw (ne_eqb (get_or v 0 0 % 4) 3 (omega arith), eq-eqb (get_or v 0 0 % 4) 2 h) at x in
+    omega arith
+
+object_within : (v : List ℕ) → is_whole 2 128 v ≡ true → object_from v ≤ length v
 object_within v e =
     let a = both {a = eqb (get_or v 0 0 % 4) 2} e in
     let b = both {a = ltb (get_or v 0 0) 128} a.1 in
-    let h = eqb-true (get_or v 0 0 % 4) 2 a.0 in
-    let x = whole_within (length v) (value_length v) (not_empty v (omega arith)) (eqb-true (measured v) (length v) b.1) in
-    let y = rw (ne_eqb (get_or v 0 0 % 4) 3 (omega arith), eq-eqb (get_or v 0 0 % 4) 2 h) at x in
-    omega arith
+    object_room v (eqb-true (get_or v 0 0 % 4) 2 a.0) (eqb-true (measured v) (length v) b.1)
 
 module _ (names : List Name) (v : List ℕ) {t : Bool} (e : t ≡ is_whole 2 128 v) where
   pub object_other : t ≡ false → None ≡ object_head names v
   object_other q = rw (object_split names v, ← e, q)
 
   module _ (q : t ≡ true) where
-    pub object_room : object_from v ≤ length v
-    object_room = object_within v (sym e ∙ q)
+    pub object_fits : object_from v ≤ length v
+    object_fits = object_within v (sym e ∙ q)
 
     module _ {ids : List ℕ} {i : Bool} (a : ids ≡ stored_ids v) (f : i ≡ ids_good names ids) where
       pub object_ids : i ≡ false → None ≡ object_head names v

@@ -9,7 +9,8 @@ use crate::numbers::Numbers;
 use measure::value_length;
 
 // The size of the header of bytes that are one list by their header: as long as they say, unused bits zero, offsets the starts of the
-// values in its data.
+// values in its data. Not put in line: lists hold each other, and the walk's frame stays small.
+#[inline(never)]
 pub fn list_head(v: &[u8]) -> Option<usize>
     ensures { result ≡ list_head v.now }
 {

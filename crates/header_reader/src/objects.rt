@@ -14,7 +14,9 @@ use lexicon::{name_below, name_count};
 
 // The size of the header of bytes that are one object by their header, over a dictionary: as long as they say, unused bits zero, each
 // offset the start of a value, no two alike, ids those of strictly ascending names.
+// Not put in line, as `list_head`: the windows' cells then lie in no frame of the walk.
 // Kept (5b; no plainer): the dictionary only names the ids; the two go together into no other function here.
+#[inline(never)]
 pub fn object_head(d: &[u8], v: &[u8]) -> Option<usize>
     ensures { result ≡ object_head (dictionary_names d.now) v.now }
 {

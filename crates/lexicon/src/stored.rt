@@ -9,7 +9,7 @@ ghost use Rattle.lexicon.specs.Dictionary.{good_names, name_in, width_in};
 
 use encoding::utf8::is_utf8;
 use measure::read_packed;
-use metadata::part;
+use metadata::{below, part};
 
 // A dictionary's bytes, the width of its stored numbers, and the count, which is the first of them.
 #[derive(Clone, Copy)]
@@ -69,7 +69,7 @@ impl<'a> Stored<'a> {
     pub(crate) fn name_is_below(self, i: usize, j: usize) -> bool
         ensures { result ≡ below_of (name_in self.entry.bytes.now i) (name_in self.entry.bytes.now j) }
     {
-        self.name(i) < self.name(j)
+        below(self.name(i), self.name(j))
     }
 
     // Do the ends behind the first offset rise to the end of the text, with UTF-8 between them?

@@ -4,7 +4,7 @@ ghost use Rattle.metadata.specs.Names.{names_of};
 ghost use Rattle.metadata.specs.Names.{below as below_of, exceeds as exceeds_of, intact as intact_of};
 
 use crate::Names;
-use crate::by_bytes::part;
+use crate::by_bytes::{below, part};
 use encoding::slices::counted;
 
 impl<'a> Names<'a> {
@@ -33,7 +33,7 @@ impl<'a> Names<'a> {
         ensures { result ≡ below_of (get_or (names_of self.entry.counts self.entry.text.now self.entry.ends.now) a [])
             (get_or (names_of self.entry.counts self.entry.text.now self.entry.ends.now) b []) }
     {
-        self.name(a) < self.name(b)
+        below(self.name(a), self.name(b))
     }
 
     // The name of an id, a part of the text.

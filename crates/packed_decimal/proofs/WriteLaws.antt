@@ -2,6 +2,7 @@
 use mathlib.Core.Path.{◌≡◌, refl, sym, ◌∙◌, ap}
 use mathlib.Core.Bool.{Bool, true, false, not, ◌||◌}
 use mathlib.Core.List.{List, [], ◌∷◌, ◌++◌, append_assoc}
+use mathlib.Core.Logic.{◌⊎◌, inl, inr}
 use Prim.Native.Nat.{ℕ, zero, suc, ◌+◌, ◌-◌, ◌*◌, ◌/◌, ◌%◌, ◌^◌, ◌≤◌, ◌<◌}
 use native.Mathlib.Omega.{arith}
 use native.Mathlib.Nat.{pow-suc, zero-add, le_trans, lt_of_le_of_lt, one-le-pow}
@@ -46,6 +47,10 @@ pub record Splits (n u e d : ℕ) : Type 0 where
 
 pub splits : (n : ℕ) → Splits n (n / 100) (n / 10 % 10) (n % 10)
 splits n = record { is = omega arith; high = omega arith; low = omega arith }
+
+-- n is divided by ten, and again
+pub splits_twice : (n : ℕ) {u t : ℕ} → t ≡ n / 10 → u ≡ t / 10 → Splits n u (t % 10) (n % 10)
+splits_twice n e f = record { is = omega arith; high = omega arith; low = omega arith }
 
 -- the last pair stands behind those of the number without it
 last_pair : {n u e d : ℕ} → Splits n u e d → 0 < n → digit_pairs n ≡ digit_pairs u ++ (byte_of e d ∷ [])
@@ -101,6 +106,37 @@ pairs_told k n h g =
     let j = pairs_many k n h in
     omega arith
 
+hundreds : (j : ℕ) → 100 ^ j ≡ 10 ^ (2 * j)
+hundreds zero = refl
+hundreds (suc j) =
+    let e : 2 * suc j ≡ suc (suc (2 * j)) = omega arith in
+    let i = hundreds j in
+    let p = pow-suc 100 j in
+    let q = pow-suc 10 (2 * j) in
+    let r = pow-suc 10 (suc (2 * j)) in
+    rw e (omega arith)
+
+halved : (k : ℕ) → (k ≡ 2 * (k / 2)) ⊎ (k ≡ suc (2 * (k / 2)))
+halved k = go (k % 2) refl
+  where
+    go : (r : ℕ) → k % 2 ≡ r → (k ≡ 2 * (k / 2)) ⊎ (k ≡ suc (2 * (k / 2)))
+    go zero e = inl (omega arith)
+    go (suc zero) e = inr (omega arith)
+    go (suc (suc r)) e = absurd (omega arith)
+
+-- the same by the digits, k of them behind the first
+pub pairs_by_digits : (k n : ℕ) → 10 ^ k ≤ n → n < 10 * 10 ^ k → k / 2 + 1 ≡ length (digit_pairs n)
+pairs_by_digits k n h g =
+    let j = k / 2 in
+    let p = hundreds j in
+    elim (halved k) [
+      | inl e ↦ let a : 10 ^ k ≡ 10 ^ (2 * j) = ap (λ m. 10 ^ m) e in pairs_told j n (omega arith) (omega arith)
+      | inr e ↦
+          let a : 10 ^ k ≡ 10 ^ suc (2 * j) = ap (λ m. 10 ^ m) e in
+          let q = pow-suc 10 (2 * j) in
+          pairs_told j n (omega arith) (omega arith)
+    ]
+
 pub pairs_zero : (n : ℕ) → (0 < n → ⊥) → 0 ≡ length (digit_pairs n)
 unfolding pairs
 pairs_zero zero h = refl
@@ -109,7 +145,7 @@ pairs_zero (suc n) h = absurd (h (omega arith))
 -- ---- written, from the last to the first
 
 -- bytes written before a byte that stands already
-write_before : (l p : List ℕ) (n b : ℕ) → n ≡ length p → n < length l → write 0 p (set l n b) ≡ write 0 (p ++ (b ∷ [])) l
+pub write_before : (l p : List ℕ) (n b : ℕ) → n ≡ length p → n < length l → write 0 p (set l n b) ≡ write 0 (p ++ (b ∷ [])) l
 unfolding write
 write_before l p n b e h =
     let a : n < length (set l n b) = simp length-set h in

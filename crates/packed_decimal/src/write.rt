@@ -1,5 +1,5 @@
 // The way back: the shortest packed decimal of a number.
-ghost use Rattle.std.specs.Prelude.{◌≡◌, ◌<◌, length};
+ghost use Rattle.std.specs.Prelude.{◌≡◌, ◌/◌, ◌<◌, length};
 ghost use Rattle.encoding.specs.Signed.{whole};
 ghost use Rattle.packed_decimal.specs.PackedDecimal.{byte_of, digit_pairs, sign_of};
 ghost use Rattle.packed_decimal.specs.Calls.{WritesPacked};
@@ -54,8 +54,8 @@ fn last_byte(digit: u8, integer: i128) -> u8
 fn pair_count(n: u128) -> usize
     ensures { result ≡ length (digit_pairs n) }
 {
-    match n.checked_ilog(100) {
-        Some(k) => k as usize + 1,
+    match n.checked_ilog10() {
+        Some(k) => k as usize / 2 + 1,
         None => 0,
     }
 }
@@ -68,7 +68,17 @@ fn write_pairs(out: &mut [u8], n: u128)
 {
     let mut rest = n;
     for i in (0..out.len()).rev() {
-        out[i] = (rest / 10 % 10) as u8 * 16 + (rest % 10) as u8;
-        rest /= 100;
+        let left = tenth(rest);
+        out[i] = (left % 10) as u8 * 16 + (rest % 10) as u8;
+        rest = tenth(left);
     }
+}
+
+// Not put in line: two of these together would become a division by 100, for which the compiler calls a function from outside (`__udivti3`);
+// for one by 10 it does not.
+#[inline(never)]
+fn tenth(n: u128) -> u128
+    ensures { result ≡ n / 10 }
+{
+    n / 10
 }

@@ -2,7 +2,7 @@
 // Kept (6; no plainer): a caller has n from a call's answer, with no proof that the slice has so many; that is asked once, here.
 #![tactic(auto)]
 
-ghost use Rattle.std.specs.Prelude.{◌≡◌, ◌/◌, ◌%◌, [], ◌∷◌, take, OnOk};
+ghost use Rattle.std.specs.Prelude.{◌≡◌, ◌/◌, ◌%◌, ◌<◌, [], ◌∷◌, take, OnOk};
 ghost use Rattle.std.specs.Fmt.{decimal as decimal_digits};
 ghost use Rattle.std.specs.Io.KnownBytes.{Appends};
 ghost use Rattle.print.specs.Digits.{hex_digit, hex_digits, front_digits};
@@ -45,10 +45,17 @@ pub fn front<W: Write>(to: &mut W, bytes: &[u8], n: usize) -> io::Result<()>
     }
 }
 
-// Its two digits, the higher first.
+// Its two digits, the higher first, in one write: on standard output each write is a system call.
 fn byte<W: Write>(to: &mut W, b: u8) -> io::Result<()>
     ensures { OnOk result (Appends (W.contents to.old) (W.contents to.new)
         (hex_digit (b / 16) ∷ hex_digit (b % 16) ∷ [])) }
 {
-    write!(to, "{b:02x}")
+    to.write_all(&[digit(b / 16), digit(b % 16)])
+}
+
+fn digit(d: u8) -> u8
+    requires { d < 16 }
+    ensures { result ≡ hex_digit d }
+{
+    if d <= 9 { b'0' + d } else { b'a' - 10 + d }
 }

@@ -63,9 +63,10 @@ impl<'a> Pair<'a> {
         for k in 0..header.count() {
             let id = header.id(k);
             let place = part_at(self.value, &header, k);
-            if let Some(number) = integer_of(field(self.value, Some(place))) {
-                return Some(IntegerField { id, number });
-            }
+            let Some(number) = integer_of(field(self.value, Some(place))) else {
+                continue;
+            };
+            return Some(IntegerField { id, number });
         }
         None
     }

@@ -2,7 +2,7 @@
 // interface.
 #![tactic(auto)]
 
-ghost use Rattle.std.specs.Prelude.{◌≡◌, ◌≤◌, ◌&&◌, ◌-◌, cond, leb};
+ghost use Rattle.std.specs.Prelude.{◌≡◌, ◌≤◌, ◌&&◌, ◌-◌, List, cond, leb, true, ℕ};
 ghost use Rattle.semantics.specs.declared.Builder.{Builder};
 ghost use Rattle.semantics.specs.Record.{chained, container_at, elements_at, mark_now, marks_fit, marks_hold, no_container, rising, view_of};
 ghost use Rattle.semantics.specs.Record.{encloses as encloses_of, under as under_of};
@@ -89,7 +89,8 @@ fn holds<R: Record>(r: &R, marks: &[usize; NUMBERS], d: usize) -> bool
 }
 
 // Does each container enclose the next? The tests are joined by `&`, without a branch, since every call makes them.
-// Kept (3; no plainer): `all` would ask after each step whether to go on, for an end that only a damaged record has.
+// Kept (3, 5a; no plainer): `all` would ask after each step whether to go on, for an end that only a damaged record has. That at most 64 are
+// open is asked once, by `holds`.
 #[inline(always)]
 fn rises<R: Record>(r: &R, d: usize) -> bool
     requires { d ≤ 64 }
@@ -121,10 +122,35 @@ fn under(k: &Container, l: &Container) -> bool
     (k.value <= l.value) & ((k.names <= l.names) & ((k.text <= l.text) & entries))
 }
 
-// Are the marks in order in each container?
-// Kept (3; no plainer): as `rises`.
+// Are the marks in order in each container? Where none is set there is nothing more to see.
+// Kept (5a; no plainer): as `rises`.
 #[inline(always)]
 fn marks_hold<R: Record>(r: &R, marks: &[usize; NUMBERS], d: usize) -> bool
+    requires { d ≤ 64 }
+    ensures { result ≡ marks_hold (R.builder r.now).containers (R.builder r.now).elements marks.now
+        (R.builder r.now).counts d }
+{
+    unmarked(r, d) || each_holds(r, marks, d)
+}
+
+// Is no mark set in any of d open containers? Every call asks this, and mostly no more.
+// Kept (3, 5a; no plainer): as `rises`.
+#[inline(always)]
+fn unmarked<R: Record>(r: &R, d: usize) -> bool
+    requires { d ≤ 64 }
+    ensures { result ≡ true → (ms : List ℕ) → marks_hold (R.builder r.now).containers (R.builder r.now).elements ms
+        (R.builder r.now).counts d ≡ true }
+{
+    let mut none = true;
+    for i in (0..d).rev() {
+        none &= r.container(i).marks == 0;
+    }
+    none
+}
+
+// The same as `marks_hold`, container by container.
+// Kept (3, 5a; no plainer): as `rises`.
+fn each_holds<R: Record>(r: &R, marks: &[usize; NUMBERS], d: usize) -> bool
     requires { d ≤ 64 }
     ensures { result ≡ marks_hold (R.builder r.now).containers (R.builder r.now).elements marks.now
         (R.builder r.now).counts d }

@@ -4,3 +4,4 @@ pub mod NameLaws
 pub mod NumberLaws
 pub mod RowLaws
 pub mod NamedLaws
+pub mod FlagLaws

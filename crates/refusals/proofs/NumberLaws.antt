@@ -21,9 +21,9 @@ use Rattle.semantics.specs.Table.{no_mark_free, not_set, number_of}
 use Rattle.std.specs.Prelude.{Option as Optional, Some, None, Result, Ok, Err}
 use Rattle.semantics.specs.declared.refusal.Refusal.{Refusal}
 use Rattle.semantics.specs.declared.refusal.Refusal.TheVariants as refusal
-use Rattle.semantics.specs.Refusal.{number_told, refusal_number}
-use Rattle.semantics.proofs.RefusalLaws.{number_some}
-use Rattle.refusals.specs.Decide.{Backs, ParentOf, broken_of, childless_by, close_by, finish_by, late_of, misread_by, place_back, unlike_by}
+use Rattle.semantics.specs.Refusal.{refusal_number}
+use Rattle.semantics.proofs.RefusalLaws.{number_some, then_none, then_ok}
+use Rattle.refusals.specs.Decide.{Backs, ClosesBy, ParentOf, broken_of, childless_by, close_by, finish_by, late_of, misread_by, place_back, unlike_by}
 pub use Rattle.refusals.proofs.ViewLaws.{broken_number, broken_close, damaged_none, entries_within, inner_within, ends_read, range_within, found_before, none_before}
 
 -- ---- a roll back's parent
@@ -81,6 +81,20 @@ module _ (v : View) (l : Storage) (below : 1 < v.counts.depth) (h : v.inner.entr
 pub by_rows : {a b c m f n : Bool} (i j k : ℕ) → a ≡ m → b ≡ f → c ≡ n → cond m i (cond f j (cond n k 0)) ≡ cond a i (cond b j (cond c k 0))
 by_rows i j k p q r = rw (p, q, r)
 
+-- ---- what a close and a roll back give: nothing where they are refused; and where they are not
+
+pub closes_none : {v : View} {l : Storage} (f : Refusal) → refusal_number f ≡ close_by v l → ClosesBy v l (Err f)
+closes_none f e = record { number = e; largest_id = then_none _ f e }
+
+pub largest_ok : {v : View} {l : Storage} {r : Result ℕ Refusal} → ClosesBy v l r → close_by v l ≡ 0 → r ≡ Ok (largest (ids_of (inner_entries v l)))
+largest_ok {r = r} a = then_ok _ r a.number a.largest_id
+
+pub backs_none : {n : ℕ} {v : View} {l : Storage} (f : Refusal) → refusal_number f ≡ n → Backs n v l (Err f)
+backs_none f e = record { number = e; place = then_none _ f e }
+
+pub place_ok : {n : ℕ} {v : View} {l : Storage} {r : Result (Optional ℕ) Refusal} → Backs n v l r → n ≡ 0 → r ≡ Ok (cond (ltb 1 v.counts.depth) (place_back v l v.inner.parent) None)
+place_ok {r = r} a = then_ok _ r a.number a.place
+
 -- ---- the rows of a roll back
 
 -- number 1's own part, where it does not refuse
@@ -102,7 +116,7 @@ rollback_refused {e} {f} {r} v l b p q i = go (damaged_parent v l) refl
     go : (d : Bool) → damaged_parent v l ≡ d → Backs (number_of v l roll_back) v l r
     go true h =
         let n : ◌≡◌ {A = ℕ} 1 (number_of v l roll_back) = by_rows 1 2 3 h refl refl ∙ rollback_rows v l b in
-        record { number = ap number_told q ∙ (ap refusal_number i ∙ (p.number ∙ (rw h n))); place = λ z. absurd (omega arith) }
+        rw q (backs_none f (ap refusal_number i ∙ (p.number ∙ (rw h n))))
     go false h = absurd (number_some e (p.number ∙ rw h))
 
 -- ---- the rows of a close

@@ -3,7 +3,7 @@ use mathlib.Core.Path.{◌≡◌, refl, sym, ◌∙◌, ap}
 use mathlib.Core.Bool.{Bool, true, false, cond, not, ◌&&◌, and-false, or-false}
 use mathlib.Core.List.{List, [], ◌∷◌, ◌++◌}
 use mathlib.Core.Option.{Option, none, some}
-use Rattle.std.specs.Prelude.{is_some, Option as Optional, Some, None, Result, Err}
+use Rattle.std.specs.Prelude.{is_some, Option as Optional, Some, None, Result, Ok, Err}
 use Rattle.std.specs.Borrow.{Bor}
 use Prim.Native.Nat.{ℕ, zero, suc, ◌+◌}
 use native.Mathlib.Omega.{arith}
@@ -22,7 +22,8 @@ use Rattle.refusals.specs.declared.Field.{Field}
 use Rattle.semantics.specs.declared.refusal.Refusal.{Refusal}
 use Rattle.semantics.specs.declared.refusal.Refusal.TheVariants as refusal
 use Rattle.semantics.specs.Refusal.{number_told}
-use Rattle.refusals.specs.Decide.{name_in, live_into, live_told, size_told, Decides, Passes, broken_of, misnamed_by, misread_into, Sees, full_by, unkept_by, rows_by, enter_by, enter_rows, late_rows}
+use Rattle.semantics.proofs.RefusalLaws.{then_by, then_ok}
+use Rattle.refusals.specs.Decide.{field_of, name_in, live_into, live_told, size_told, Decides, Passes, broken_of, misnamed_by, misread_into, Sees, full_by, unkept_by, rows_by, enter_by, enter_rows, late_rows}
 use Rattle.refusals.proofs.ViewLaws.{neither, past, undamaged_unbroken}
 pub use Rattle.refusals.proofs.ViewLaws.{broken_none, damaged_broken}
 
@@ -126,10 +127,7 @@ own_before v l nm into opens own size other z = rw (ne_eqb own 0 z) refl
 pub decides_broken : {into : Bool} {v : View} {l : Storage} {nm : Option Name} (m : Bool) (rs : List Row) → broken_of v l ≡ true
     → Decides (first (row 1 (damaged v l m) ∷ rs)) into v l nm (Err refusal.Damaged)
 unfolding first
-decides_broken {v = v} {l = l} m rs e = let z = damaged_broken v l m e in record { number = rw z; field = λ p. absurd (true_some (rw z at p)) }
-  where
-    true_some : ◌≡◌ {A = ℕ} 1 0 → ⊥
-    true_some e = omega arith
+decides_broken {v = v} {l = l} m rs e = let z = damaged_broken v l m e in record { number = rw z; field = rw z }
 
 -- where it does not, the field where the number is 0
 pub enter_decides : (v : View) (l : Storage) (name : Optional (Bor Name)) {f r : Result Field Refusal} {into : Bool} (opens : Bool) (size : Result ℕ Refusal) → broken_of v l ≡ false → Sees into v l (name_in name) f
@@ -139,12 +137,17 @@ enter_decides v l name {f} {r} {into} opens size e s p =
     let q = enter_rows_lem v l name f into opens (number_told size) (size_told size) e s in
     record {
       number = p.number ∙ q;
-      field = λ z. p.field (q ∙ z)
+      field = then_by _ r (p.number ∙ q)
+          (λ z. p.field (q ∙ z)
           ∙ s.field
           (rows_zero (number_told f) (number_told size) v.counts.finished (into && misnamed_by (is_some name) v) (into && second_top v) (unique_now v && live_told f)
           (opens && leb 64 v.counts.depth) (full_by into v (live_told f) (length l.entries)) (unkept_by v (live_told f) (length l.undo))
-          (fits v.counts.value (size_told size) (length l.value)) (q ∙ z));
+          (fits v.counts.value (size_told size) (length l.value)) (q ∙ z)));
     }
+
+-- and so what is in it
+pub field_ok : {n : ℕ} {into : Bool} {v : View} {l : Storage} {nm : Option Name} {r : Result Field Refusal} → Decides n into v l nm r → n ≡ 0 → r ≡ Ok (field_of into v l nm)
+field_ok {r = r} a = then_ok _ r a.number a.field
 
 -- ---- each call's rows
 

@@ -15,7 +15,7 @@ use Rattle.container.specs.Entries.{ids_of, room_for, seek}
 use Rattle.semantics.specs.declared.View.{View}
 use Rattle.semantics.specs.declared.refusal.Refusal.{Refusal}
 use Rattle.semantics.specs.declared.refusal.Refusal.TheVariants as refusal
-use Rattle.semantics.specs.Refusal.{name_refusal, number_told}
+use Rattle.semantics.specs.Refusal.{name_refusal, number_told, refusal_number, then_or}
 use Rattle.semantics.specs.Record.{Storage, storage_of, close, finish, is_open, in_object, inner_entries, parent_size, parent_entries, unique_now}
 use Rattle.semantics.specs.Damage.{damaged, fallen_ends, misplaced_inner, over_used, unchained, bad_floor, damaged_parent, uncounted}
 use Rattle.semantics.specs.Table.{rows, held, id_of, live_under, bad_name, misnamed, names_full, second_top, too_long}
@@ -81,11 +81,18 @@ opens_of entering.Register = false
 opens_of entering.Append = false
 opens_of entering.Open = true
 
--- ---- the answers: a number n and, where it is 0, what the call then needs
+-- ---- the answers: a number n and, where it is 0, what the call then needs; else none of that
+
+abbrev pub no_field : Field
+no_field = Unnamed
 
 pub record Decides (n : ℕ) (into : Bool) (v : View) (l : Storage) (nm : Option Name) (r : Result Field Refusal) : Type 0 where
   pub number : number_told r ≡ n
-  pub field : n ≡ 0 → r ≡ Ok (field_of into v l nm)
+  pub field : then_or no_field r ≡ cond (eqb n 0) (field_of into v l nm) no_field
+
+-- a call of number n, by that number: the field where it is 0
+abbrev pub field_or_number : ℕ → Field → Result Field ℕ
+field_or_number n f = cond (eqb n 0) (Ok f) (Err n)
 
 -- the place of the parent's entry that gets its former offset again, if one does
 abbrev pub place_back : View → Storage → Optional Entry → Optional ℕ
@@ -94,7 +101,7 @@ place_back v l (Some former) = Some (v.parent.entries + seek former.id (parent_e
 
 pub record Backs (n : ℕ) (v : View) (l : Storage) (r : Result (Optional ℕ) Refusal) : Type 0 where
   pub number : number_told r ≡ n
-  pub place : n ≡ 0 → r ≡ Ok (cond (ltb 1 v.counts.depth) (place_back v l v.inner.parent) None)
+  pub place : then_or None r ≡ cond (eqb n 0) (cond (ltb 1 v.counts.depth) (place_back v l v.inner.parent) None) None
 
 -- number 1's part that every call asks
 abbrev pub broken_of : View → Storage → Bool
@@ -110,7 +117,7 @@ close_by v l =
 -- and the largest id of the innermost's entries
 pub record ClosesBy (v : View) (l : Storage) (r : Result ℕ Refusal) : Type 0 where
   pub number : number_told r ≡ close_by v l
-  pub largest_id : close_by v l ≡ 0 → r ≡ Ok (largest (ids_of (inner_entries v l)))
+  pub largest_id : then_or 0 r ≡ cond (eqb (close_by v l) 0) (largest (ids_of (inner_entries v l))) 0
 
 -- a finish's, by rows 1, 2, 4 and 15; where none of 2, 4 and 15 holds it is number 1 only by what every call asks: the
 -- dictionary asks the name ends itself before it is written
@@ -229,3 +236,13 @@ abbrev pub enter_by : View → Result Field Refusal → Bool → Bool → Bool �
 enter_by v f named into opens size room lent undo =
     rows_by (number_told f) (number_told size) v.counts.finished (into && misnamed_by named v) (into && second_top v) (unique_now v && live_told f)
     (opens && leb 64 v.counts.depth) (full_by into v (live_told f) lent) (unkept_by v (live_told f) undo) (fits v.counts.value (size_told size) room)
+
+-- row 12 or one behind it, or none
+abbrev pub late_told : Result Field Refusal → Bool
+late_told (Ok f) = true
+late_told (Err r) = leb 12 (refusal_number r)
+
+-- the answer by number, where 7 stands for the scalar's own
+abbrev pub own_told : ℕ → Result Field Refusal → Result Field ℕ
+own_told own (Ok f) = Ok f
+own_told own (Err r) = Err (cond (eqb (refusal_number r) 7) own (refusal_number r))

@@ -5,6 +5,7 @@
 ghost use Rattle.std.specs.Prelude.{◌≡◌};
 ghost use Rattle.refusals.specs.Decide.{field_id, field_place, into_of, opens_of};
 
+mod flags;
 mod lookup;
 mod numbers;
 mod view;

@@ -4,7 +4,8 @@ use mathlib.Core.Bool.{true, cond}
 use Prim.Native.Nat.{ℕ}
 use native.Mathlib.Omega.{arith}
 use lib.Dec.{eqb}
-use Rattle.std.specs.Prelude.{Err}
+use borrow.Author.Tests.{eq-eqb, ne_eqb}
+use Rattle.std.specs.Prelude.{Result, Ok, Err}
 use Rattle.encoding.specs.Rows.{listed, order}
 use Rattle.metadata.specs.declared.NameError.{NameError}
 use Rattle.metadata.specs.declared.NameError.TheVariants as name
@@ -19,7 +20,7 @@ use Rattle.packed_decimal.specs.declared.read.PackedError.TheVariants as packed
 use Rattle.packed_decimal.specs.Calls.{read_answer}
 use Rattle.semantics.specs.declared.refusal.Refusal.{Refusal}
 use Rattle.semantics.specs.declared.refusal.Refusal.TheVariants as refusal
-use Rattle.semantics.specs.Refusal.{close_refusal, finish_refusal, name_refusal, packed_refusal, refusal_number}
+use Rattle.semantics.specs.Refusal.{close_refusal, finish_refusal, name_refusal, number_told, packed_refusal, refusal_number, then_or}
 
 -- a number's refusal, if it is one of a call of the writer
 refusal_of : ℕ → Refusal
@@ -120,6 +121,19 @@ number_some refusal.NotPacked e = omega arith
 number_some refusal.NoMark e = omega arith
 number_some refusal.UndoFull e = omega arith
 number_some refusal.BadFloor e = omega arith
+
+-- ---- what a call gives, or its caller has: by the call's number n and what it gives where that is 0; and back
+
+pub then_by : {A : Type 0} (d : A) {x : A} {n : ℕ} (r : Result A Refusal) → number_told r ≡ n → (n ≡ 0 → r ≡ Ok x) → then_or d r ≡ cond (eqb n 0) x d
+then_by d {n = n} (Ok y) e h = rw (eq-eqb n 0 (sym e)) (ap (then_or y) (h (sym e)))
+then_by d {n = n} (Err f) e h = rw (ne_eqb n 0 (λ p. number_some f (e ∙ p)))
+
+pub then_none : {A : Type 0} {d : A} (x : A) {n : ℕ} (f : Refusal) → refusal_number f ≡ n → d ≡ cond (eqb n 0) x d
+then_none {d = d} x f e = then_by d {x = x} (Err f) e (λ p. absurd (number_some f (e ∙ p)))
+
+pub then_ok : {A : Type 0} (d : A) {x : A} {n : ℕ} (r : Result A Refusal) → number_told r ≡ n → then_or d r ≡ cond (eqb n 0) x d → n ≡ 0 → r ≡ Ok x
+then_ok d {n = n} (Ok y) e h z = ap Ok (rw (eq-eqb n 0 z) at h)
+then_ok d (Err f) e h z = absurd (number_some f (e ∙ z))
 
 -- ---- the refusal of what a call rests on has its number
 

@@ -40,6 +40,11 @@ abbrev pub number_told : {A : Type 0} → Result A Refusal → ℕ
 number_told (Ok x) = 0
 number_told (Err r) = refusal_number r
 
+-- what a call gives; of one that is refused, which gives nothing back, what its caller has
+abbrev pub then_or : {A : Type 0} → A → Result A Refusal → A
+then_or d (Ok x) = x
+then_or d (Err r) = d
+
 -- ---- the refusals of what a call rests on, each the row of its own number
 
 -- of a name's look-up

@@ -45,16 +45,19 @@ pub struct Header {
     pub operand: usize,
 }
 
-// How many scripts there are.
-pub fn read_count<R: Read>(from: &mut R) -> Result<usize, Fail> {
-    let mut b = [0u8; 2];
-    field(from, &mut b)?;
+// How many scripts there are; where that is missing, one, which is not there.
+pub fn read_count<R: Read>(from: &mut R) -> io::Result<usize> {
+    let mut b = [0u8, 1];
+    let _whole = is_there(from, &mut b)?;
     Ok(size(b))
 }
 
-pub fn read_start<R: Read>(from: &mut R) -> Result<Start, Fail> {
+// Where a byte is missing, too large a storage.
+pub fn read_start<R: Read>(from: &mut R) -> io::Result<Start> {
     let mut b = [0u8; 22];
-    field(from, &mut b)?;
+    if !is_there(from, &mut b)? {
+        b[4] = 255;
+    }
     let [floor] = words::<1>(&b[14..]);
     Ok(Start {
         unique: b[0] == 1,
@@ -69,9 +72,13 @@ pub fn read_start<R: Read>(from: &mut R) -> Result<Start, Fail> {
     })
 }
 
+// An output or a place of 1280 or more is too large.
 pub fn read_header<R: Read>(from: &mut R) -> Result<Header, Fail> {
     let mut b = [0u8; 10];
     field(from, &mut b)?;
+    if 4 < b[4] {
+        return Err(Fail::Malformed);
+    }
     Ok(Header {
         call: b[0],
         argument: b[1],
@@ -88,21 +95,29 @@ fn size(bytes: [u8; 2]) -> usize {
     u16::from_be_bytes(bytes) as usize
 }
 
+// Is the next field there, with as many bytes as `out` has? Where it is not, these are filled as far as it goes.
+fn is_there<R: Read>(from: &mut R, out: &mut [u8]) -> io::Result<bool> {
+    match field(from, out) {
+        Ok(()) => Ok(true),
+        Err(Fail::Malformed) => Ok(false),
+        Err(Fail::Io(e)) => Err(e),
+    }
+}
+
 // The next bytes, as many as `out` has, with a comma or a line end behind them.
 pub fn field<R: Read>(from: &mut R, out: &mut [u8]) -> Result<(), Fail> {
     for b in out {
         *b = byte(from)?;
     }
-    match next(from)? {
-        b',' | b'\n' => Ok(()),
+    match next::<R, 1>(from)? {
+        [b',' | b'\n'] => Ok(()),
         _ => Err(Fail::Malformed),
     }
 }
 
 fn byte<R: Read>(from: &mut R) -> Result<u8, Fail> {
-    let high = digit(next(from)?)?;
-    let low = digit(next(from)?)?;
-    Ok(high << 4 | low)
+    let [high, low] = next::<R, 2>(from)?;
+    Ok(digit(high)? << 4 | digit(low)?)
 }
 
 fn digit(c: u8) -> Result<u8, Fail> {
@@ -113,10 +128,11 @@ fn digit(c: u8) -> Result<u8, Fail> {
     }
 }
 
-fn next<R: Read>(from: &mut R) -> Result<u8, Fail> {
-    let mut c = [0u8];
-    match from.read_exact(&mut c) {
-        Ok(()) => Ok(c[0]),
+// The next characters, by one read.
+fn next<R: Read, const N: usize>(from: &mut R) -> Result<[u8; N], Fail> {
+    let mut characters = [0; N];
+    match from.read_exact(&mut characters) {
+        Ok(()) => Ok(characters),
         Err(e) if e.kind() == ErrorKind::UnexpectedEof => Err(Fail::Malformed),
         Err(e) => Err(Fail::Io(e)),
     }

@@ -5,19 +5,17 @@
 // Each script is lent as much storage as it names, of one storage for all of them, which is not blank and never cleared.
 #![tactic(auto)]
 
-mod calls;
 mod compare;
 mod input;
 mod parse;
 mod poke;
 
 use builder::with_floor;
-use builder_mut::VariantBuilder;
-use calls::make;
+use builder_mut::{Call, VariantBuilder};
 use compare::Tally;
 use input::{Fail, Header, Start, field, read_count, read_header, read_start};
 use marks::NUMBERS;
-use parse::{Call, Line, line_of};
+use parse::{Line, array, line_of};
 use poke::alter;
 use semantics::Builder;
 use std::io;
@@ -43,9 +41,10 @@ struct Given<'a> {
 }
 
 impl<'a> Given<'a> {
-    // The name of the value that a call enters, where one is given.
+    // The name of the value that a call enters, where one is given; a register's is given without a mark.
     fn field_name(self) -> Option<&'a [u8]> {
-        self.header.named.then_some(self.name)
+        let register = self.header.call == 1;
+        (register || self.header.named).then_some(self.name)
     }
 }
 
@@ -152,7 +151,9 @@ fn next<R: Read, W: Write>(
     match line_of(header, given.operand)? {
         Line::Poke(poke) => {
             tally.pass();
-            alter(v, poke);
+            if let Some(poke) = poke {
+                alter(v, poke);
+            }
         }
         Line::Dump => looked(to, tally, v, given)?,
         Line::Call(call) => called(to, tally, v, call, given)?,
@@ -173,7 +174,7 @@ fn looked<W: Write>(
     if given.header.argument == 0 {
         return Ok(());
     }
-    tally.compared(to, "value", given.operand, v.value.get(..counts.value))
+    tally.compared(to, "value", given.operand, v.value, counts.value)
 }
 
 // Of a finish that must be carried out, the expected dictionary stands in the name's place, and the expected value in the operand's.
@@ -186,16 +187,17 @@ fn called<W: Write>(
 ) -> io::Result<()> {
     let mut space = [0xEEu8; 1024];
     let out = &mut space[..given.header.size.min(1024)];
-    let made = make(v, call, given, out);
+    let operand = given.operand;
+    let made = v.lend(call, given.field_name(), operand, array(operand), out);
     let number = made.err().map_or(0, |e| e.number());
     tally.count();
     tally.answered(to, given.header.number, number)?;
-    if let Ok(Some(written)) = made
+    if let Call::Finish = call
         && given.header.number == 0
     {
         let used = v.builder.counts.value;
-        tally.compared(to, "value", given.operand, v.value.get(..used))?;
-        tally.compared(to, "dictionary", given.name, out.get(..written))?;
+        tally.compared(to, "value", operand, v.value, used)?;
+        tally.compared(to, "dictionary", given.name, out, made.unwrap_or(0))?;
     }
     Ok(())
 }

@@ -1,39 +1,16 @@
 // One line's call. The numbers are those of the input, which tools/replay.py names.
 use crate::input::{Fail, Header};
 use crate::poke::{Poke, poke_of};
+use builder_mut::Call;
 use calendar::civil::Civil;
 use calendar::date::Date;
 use value::decimal::{VariantDecimal4, VariantDecimal8, VariantDecimal16};
 use value::variant::{Variant, VariantBytes};
 
 pub enum Line<'a> {
-    Poke(Poke<'a>),
+    Poke(Option<Poke<'a>>),
     Dump,
     Call(Call),
-}
-
-// A call, with what it takes beside the name, the operand and the output.
-#[derive(Clone, Copy)]
-pub enum Call {
-    AddFieldName,
-    NewList,
-    NewObject,
-    Close,
-    Rollback,
-    WithValidateUniqueFields(bool),
-    Append(Own),
-    Finish,
-    Mark,
-    ReturnTo(usize),
-}
-
-#[derive(Clone, Copy)]
-pub enum Own {
-    Bytes(VariantBytes),
-    Uuid([u8; 16]),
-    Value(Variant),
-    Civil(Civil),
-    Packed(u8),
 }
 
 pub fn line_of(h: Header, operand: &[u8]) -> Result<Line<'_>, Fail> {
@@ -45,14 +22,14 @@ pub fn line_of(h: Header, operand: &[u8]) -> Result<Line<'_>, Fail> {
         4 => Call::Close,
         5 => Call::Rollback,
         6 => Call::WithValidateUniqueFields(argument == 1),
-        7 => Call::Append(Own::Bytes(kind(argument))),
-        8 => Call::Append(Own::Uuid(array(operand))),
-        9 => Call::Append(Own::Value(scalar(argument, operand))),
+        7 => Call::AppendBytes(kind(argument)),
+        8 => Call::AppendUuid,
+        9 => Call::AppendValue(scalar(argument, operand)),
         10 => Call::Finish,
-        11 => return Ok(Line::Poke(poke_of(h, operand)?)),
+        11 => return Ok(Line::Poke(poke_of(h, operand))),
         12 => return Ok(Line::Dump),
-        13 => Call::Append(Own::Civil(civil(argument, operand))),
-        14 => Call::Append(Own::Packed(argument)),
+        13 => Call::AppendCivil(civil(argument, operand)),
+        14 => Call::AppendPacked(argument),
         15 => Call::Mark,
         16 => {
             let [mark] = words::<1>(operand);
@@ -141,7 +118,7 @@ pub fn words<const N: usize>(bytes: &[u8]) -> [u64; N] {
 
 // The first N bytes, 0 where there is none.
 // Kept (1d; no plainer): as for the numbers above.
-fn array<const N: usize>(bytes: &[u8]) -> [u8; N] {
+pub fn array<const N: usize>(bytes: &[u8]) -> [u8; N] {
     let mut first = [0; N];
     for (b, x) in first.iter_mut().zip(bytes) {
         *b = *x;

@@ -1,6 +1,6 @@
 // A poke: the record or the storage altered between two calls. A place that is not there is passed over. The numbers are those of the
 // input, which tools/replay.py names.
-use crate::input::{Fail, Header};
+use crate::input::Header;
 use crate::parse::words;
 use builder_mut::VariantBuilder;
 use container::{Entry, put_entry};
@@ -51,8 +51,8 @@ pub enum Field {
     Marks(usize),
 }
 
-// A mark's place stands for its seven numbers, in the order of the pokes.
-pub fn poke_of(h: Header, operand: &[u8]) -> Result<Poke<'_>, Fail> {
+// A mark's place stands for its seven numbers, in the order of the pokes. None where the number is no poke's.
+pub fn poke_of(h: Header, operand: &[u8]) -> Option<Poke<'_>> {
     let at = h.size;
     let [n, offset] = words::<2>(operand);
     let n = n as usize;
@@ -74,13 +74,13 @@ pub fn poke_of(h: Header, operand: &[u8]) -> Result<Poke<'_>, Fail> {
             let place = at.saturating_mul(7);
             Poke::Mark(place.saturating_add(h.argument as usize - 26), n)
         }
-        _ => return Err(Fail::Malformed),
+        _ => return None,
     };
-    Ok(poke)
+    Some(poke)
 }
 
 // Kept (7; no plainer): the input's number of a count becomes one of an enum here.
-fn count_of(which: u8, n: usize) -> Result<Count, Fail> {
+fn count_of(which: u8, n: usize) -> Option<Count> {
     let count = match which {
         0 => Count::Value(n),
         1 => Count::Names(n),
@@ -91,14 +91,14 @@ fn count_of(which: u8, n: usize) -> Result<Count, Fail> {
         7 => Count::Finished(n == 1),
         20 => Count::Floor(n),
         22 => Count::Undo(n),
-        _ => return Err(Fail::Malformed),
+        _ => return None,
     };
-    Ok(count)
+    Some(count)
 }
 
 // An own entry that was replaced is given by two numbers, all else by the first.
 // Kept (7; no plainer): the input's number of a field becomes one of an enum here.
-fn field_of(which: u8, given: Entry) -> Result<Field, Fail> {
+fn field_of(which: u8, given: Entry) -> Option<Field> {
     let n = given.id;
     let field = match which {
         8 => Field::Value(n),
@@ -111,9 +111,9 @@ fn field_of(which: u8, given: Entry) -> Result<Field, Fail> {
         15 => Field::Parent(Some(given)),
         24 => Field::Undo(n),
         25 => Field::Marks(n),
-        _ => return Err(Fail::Malformed),
+        _ => return None,
     };
-    Ok(field)
+    Some(field)
 }
 
 // Kept (7; no plainer): the pokes are an enum, and each arm alters what its poke names.

@@ -1,5 +1,6 @@
 -- Four parts filled in a row are the record's.
 use mathlib.Core.Path.{◌∙◌}
+use native.Mathlib.Omega.{arith}
 use Rattle.batch.specs.Layout.{record_bytes}
 use Rattle.batch.proofs.NumberLaws.{length_big, big_bytes}
 use Rattle.batch.proofs.WritingLaws.{filled}
@@ -10,5 +11,7 @@ unfolding record_bytes
 returns c =
     let count = c.copy_from_slice.ensures.after ∙ c.to_be_bytes.ensures ∙ big_bytes _ in
     let size = c.copy_from_slice-2.ensures.after ∙ c.to_be_bytes-2.ensures ∙ big_bytes _ in
-    rw (count, size, c.copy_from_slice-3.ensures.after, c.copy_from_slice-4.ensures.after)
+    let dictionary = c.put_slice.ensures.room (omega (arith, c.requires.filled)) in
+    let value = c.put_slice-2.ensures.room (omega (arith, c.requires.filled)) in
+    rw (value, dictionary, size, count)
     (filled c.args.part.now _ _ _ _ (length_big _) (length_big _) c.requires.filled)

@@ -14,18 +14,17 @@ loop-k-init c =
     rw (add-zero a.part, sub-zero n)
     (strides_start a.value.now a.entries.now a.width 0 a.part n (omega (arith, c.requires.room)) (omega (arith, c.requires.second)))
 
-pub put_packed-requires : goal.put_packed-requires
-put_packed-requires c = let i = c.loop-k.invariant in omega (arith, strides_room i (omega arith), i.size)
-
 pub loop-k-preserved : goal.loop-k-preserved
 loop-k-preserved c =
     let a = c.args in
+    let i = c.loop-k.invariant in
     let k = c.loop-k.k in
     let n = length a.entries.now / 2 in
     let p : a.part + 2 * k + 2 ≡ a.part + 2 * (k + 1) = omega arith in
     let m : n - k - 1 ≡ n - (k + 1) = omega arith in
     let q : 2 * k + a.part ≡ a.part + 2 * k = omega arith in
-    rw (p, m) at (strides_again c.loop-k.invariant (omega arith) (rw q at c.put_packed.ensures))
+    let w = c.put_packed.ensures.room (omega (arith, strides_room i (omega arith), i.size)) in
+    rw (p, m) at (strides_again i (omega arith) (rw q at w))
 
 pub returns : goal.returns
 returns c = strides_end c.loop-k.invariant (omega arith)

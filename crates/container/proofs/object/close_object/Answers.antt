@@ -73,7 +73,7 @@ returns-then-fits c =
     record {
       header =
           closes_done _ _ _ _ _ c.is_outside.ensures c.if-is_outside.false k t c.if-fits.true
-          (fronts _ _ _ _ _ i.order k t c.if-fits.true c.shift_within.ensures front);
+          (fronts _ _ _ _ _ i.order k t c.if-fits.true (c.shift_within.ensures.room i.order (omega arith)) front);
       entries_left = freed_sorted _ _ _ sorted;
     }
 

@@ -4,7 +4,7 @@ use mathlib.Core.Path.{◌≡◌, ◌∙◌}
 use Prim.Native.Nat.{◌≤◌}
 use lib.ListN.{length}
 use Rattle.grammar.specs.Tests.{list_from, list_offsets}
-use Rattle.header_reader.proofs.HeadLaws.{list_other, list_room, list_told}
+use Rattle.header_reader.proofs.HeadLaws.{list_other, list_fits, list_told}
 use Rattle.header_reader.proofs.lists.list_head.Goals as goal
 use Rattle.header_reader.proofs.lists.list_head.Goals.{After-offsets}
 
@@ -15,7 +15,7 @@ told : (c : After-offsets) → c.offsets.result ≡ list_offsets c.args.v.now
 told c = c.offsets.ensures ∙ c.of_list-header.ensures.offsets
 
 room : (c : After-offsets) → c.from-from.result ≤ length c.args.v.now
-room c = rw (begins c) (list_room _ c.is_whole.ensures c.if-not-is_whole.false)
+room c = rw (begins c) (list_fits _ c.is_whole.ensures c.if-not-is_whole.false)
 
 pub returns-then-not-is_whole : goal.returns-then-not-is_whole
 returns-then-not-is_whole c = list_other _ c.is_whole.ensures c.if-not-is_whole.true

@@ -5,7 +5,7 @@ use Prim.Native.Nat.{◌≤◌}
 use lib.ListN.{length}
 use Rattle.metadata.specs.Bytes.{dictionary_names}
 use Rattle.grammar.specs.Tests.{object_from, object_offsets, stored_ids}
-use Rattle.header_reader.proofs.HeadLaws.{object_other, object_room, object_ids, object_told}
+use Rattle.header_reader.proofs.HeadLaws.{object_other, object_fits, object_ids, object_told}
 use Rattle.header_reader.proofs.objects.object_head.Goals as goal
 use Rattle.header_reader.proofs.objects.object_head.Goals.{After-from-from}
 
@@ -13,7 +13,7 @@ begins : (c : After-from-from) → c.from-from.result ≡ object_from c.args.v.n
 begins c = c.from-from.ensures.0 ∙ c.of_object-header.ensures.from
 
 room : (c : After-from-from) → c.from-from.result ≤ length c.args.v.now
-room c = rw (begins c) (object_room (dictionary_names c.args.d.now) _ c.is_whole.ensures c.if-not-is_whole.false)
+room c = rw (begins c) (object_fits (dictionary_names c.args.d.now) _ c.is_whole.ensures c.if-not-is_whole.false)
 
 told : (c : After-from-from) → c.of_object-header.result.offsets ≡ object_offsets c.args.v.now
 told c = c.of_object-header.ensures.offsets

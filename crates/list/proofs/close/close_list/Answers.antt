@@ -39,9 +39,11 @@ pub returns-then-fits : goal.returns-then-fits
 returns-then-fits c =
     let f = c.fits.ensures in
     let h = c.header-front.ensures in
+    let o = (tested (goal.at.returns-then-fits c).Else-is_damaged).order in
+    let k = room (goal.at.returns-then-fits c).Then-fits in
     closes_done _ _ _ _ _ c.is_damaged.ensures c.if-is_damaged.false (size (goal.at.returns-then-fits c).After-len-header) f c.if-fits.true
-    (fronts_list _ _ _ _ _ _ _ _ (tested (goal.at.returns-then-fits c).Else-is_damaged).order (rw (h.count, h.width) at c.len-header.ensures) f c.if-fits.true
-    c.shift_within.ensures (rw (h.count, h.width, h.size) at c.write.ensures))
+    (fronts_list _ _ _ _ _ _ _ _ o (rw (h.count, h.width) at c.len-header.ensures) f c.if-fits.true
+    (c.shift_within.ensures.room o (omega arith)) (rw (h.count, h.width, h.size) at c.write.ensures))
 
 pub returns-else-fits : goal.returns-else-fits
 returns-else-fits c =

@@ -4,7 +4,7 @@ use mathlib.Core.Path.{◌≡◌}
 use Prim.Native.Nat.{◌-◌, ◌+◌}
 use native.Mathlib.Nat.{sub-zero}
 use Rattle.measure.proofs.MeasureLaws.{length_or_zero, measured_within}
-use Rattle.list.proofs.StartLaws.{starts_start, starts_again, starts_end}
+use Rattle.list.proofs.StartLaws.{starts_start, starts_room, starts_again, starts_end}
 use Rattle.list.proofs.starts.write_starts.Goals as goal
 
 pub loop-init : goal.loop-init
@@ -15,7 +15,9 @@ loop-preserved c =
     let n = c.args.n in
     let k = c.loop.counter in
     let e : n - k - 1 ≡ n - (k + 1) = omega arith in
-    rw e at (starts_again c.unwrap_or.result c.loop.invariant (omega arith) c.put_packed.ensures
+    let i = c.loop.invariant in
+    let w = c.put_packed.ensures.room (omega (arith, starts_room i (omega arith), i.size)) in
+    rw e at (starts_again c.unwrap_or.result i (omega arith) w
     (length_or_zero _ _ _ c.value_length.ensures c.unwrap_or.ensures))
 
 pub returns : goal.returns

@@ -22,16 +22,12 @@ returns-in_err-size c =
     let r : c.from_residual.result ≡ Err NoRoom = search rules in
     rw r (finish_no_room _ _ _ _ _ (sym c.intact.ensures ∙ c.if-not-intact.false) (rw (← c.counted.ensures) c.size_within.ensures) n)
 
-pub put_slice-requires : goal.put_slice-requires
-put_slice-requires c =
-    let m = c.args.self.counts in
-    let f = fitting (goal.at.put_slice-requires c).In_ok-size in
-    omega (arith, f.room, size_least c.args.floor m.names m.text)
-
 pub returns-then-unused : goal.returns-then-unused
 returns-then-unused c =
+    let m = c.args.self.counts in
     let f = fitting (goal.at.returns-then-unused c).In_ok-size in
-    finish_written f (unused_written _ _ _ _ _ c.unused.ensures c.if-unused.true c.put_slice.ensures)
+    let written = c.put_slice.ensures.room (omega (arith, f.room, size_least c.args.floor m.names m.text)) in
+    finish_written f (unused_written _ _ _ _ _ c.unused.ensures c.if-unused.true written)
 
 pub write_dictionary-requires : goal.write_dictionary-requires
 write_dictionary-requires c =

@@ -57,18 +57,14 @@ slice_bounds-put_slice-end c =
     let p = intact_parts s.counts s.text.now s.ends.now c.requires.ends_value in
     sym (length-take-le s.counts.text s.text.now (omega arith))
 
-pub put_slice-requires : goal.put_slice-requires
-put_slice-requires c =
-    let s = c.args.self in
-    let r = room (goal.at.put_slice-requires c).After-write_front in
-    names_room c.args.floor s.counts s.text.now s.ends.now c.requires.ends_value c.number_width-width.result c.write_front.new.out
-    c.number_width-width.ensures r
-    (written (goal.at.put_slice-requires c).After-write_offsets r)
-
 pub returns : goal.returns
 returns c =
     let s = c.args.self in
+    let f = c.write_front.new.out in
+    let width = c.number_width-width.result in
     let r = room (goal.at.returns c).After-write_front in
-    dictionary_written c.args.floor s.counts s.text.now s.ends.now c.requires.ends_value c.number_width-width.result c.args.out.now c.number_width-width.ensures
+    let w = written (goal.at.returns c).After-write_offsets r in
+    let k = names_room c.args.floor s.counts s.text.now s.ends.now c.requires.ends_value width f c.number_width-width.ensures r w in
+    dictionary_written c.args.floor s.counts s.text.now s.ends.now c.requires.ends_value width c.args.out.now c.number_width-width.ensures
     c.requires.text_bound
-    c.write_front.ensures (written (goal.at.returns c).After-write_offsets r) c.put_slice.ensures
+    c.write_front.ensures w (c.put_slice.ensures.room k)

@@ -6,11 +6,11 @@ use Rattle.metadata.proofs.dictionary.write_offsets.Goals as goal
 pub loop-end-init : goal.loop-end-init
 loop-end-init c = offsets_start _ _ _ _ (omega (arith, c.requires))
 
-pub put_packed-requires : goal.put_packed-requires
-put_packed-requires c = let i = c.loop-end.invariant in omega (arith, row_room i c.loop-end-test.true, i.room, i.size)
-
 pub loop-end-preserved : goal.loop-end-preserved
-loop-end-preserved c = offsets_again c.loop-end.invariant c.loop-end-test.true c.put_packed.ensures
+loop-end-preserved c =
+    let i = c.loop-end.invariant in
+    let t = c.loop-end-test.true in
+    offsets_again i t (c.put_packed.ensures.room (omega (arith, row_room i t, i.room, i.size)))
 
 pub returns : goal.returns
 returns c = (offsets_end c.loop-end.invariant c.loop-end-test.false).1

@@ -21,10 +21,10 @@ pub loop-k-preserved : goal.loop-k-preserved
 loop-k-preserved c =
     hunts_again c.loop-k.invariant (there (goal.at.loop-k-preserved c).In-loop-k) (rw c.in_ok-header.ensures.ids at c.id-id.ensures.0) (rw (c.in_ok-header.ensures.from, c.in_ok-header.ensures.offsets) at c.part_at-place.ensures) c.field.ensures c.integer_of.ensures c.in_default.is
 
-pub returns-in-Some : goal.returns-in-Some
-returns-in-Some c =
+pub returns-in-loop-k : goal.returns-in-loop-k
+returns-in-loop-k c =
     rw (to_z-of_z w64 c.in-Some.number (record { sfits = omega arith }))
-    (hunts_found c.loop-k.invariant (there (goal.at.returns-in-Some c).In-loop-k) (rw c.in_ok-header.ensures.ids at c.id-id.ensures.0) (rw (c.in_ok-header.ensures.from, c.in_ok-header.ensures.offsets) at c.part_at-place.ensures) c.field.ensures c.integer_of.ensures c.in-Some.is)
+    (hunts_found c.loop-k.invariant (there (goal.at.returns-in-loop-k c).In-loop-k) (rw c.in_ok-header.ensures.ids at c.id-id.ensures.0) (rw (c.in_ok-header.ensures.from, c.in_ok-header.ensures.offsets) at c.part_at-place.ensures) c.field.ensures c.integer_of.ensures c.in-Some.is)
 
 pub returns : goal.returns
 returns c = hunts_none c.loop-k.invariant (omega (arith, c.count-k-end.ensures.0, c.in_ok-header.ensures.count))

@@ -23,8 +23,9 @@ returns c =
     let k : 1 + count + s.id_size * n + s.offset_size * n + s.offset_size ≤ length l =
     omega (arith, c.requires.room, c.count_size-count.ensures, one_more_lem s.offset_size n) in
     let z : length m ≡ length l = c.put_packed.auto.buf ∙ length-set l 0 c.first_byte.result in
+    let front = c.put_packed.ensures.room (omega arith) in
+    let last = c.put_packed-2.ensures.room (omega arith) in
     let ids = row_part s.id_size (1 + count) n 0 m es e c.write_strided.ensures (omega arith) in
     let y = ap length ids ∙ (length_write (1 + count) (les s.id_size (strided es 0 n)) m (omega (arith, length_row s.id_size es 0 n)) ∙ z) in
     let offsets = row_part s.offset_size (1 + count + s.id_size * n) n 1 _ es e c.write_strided-2.ensures (omega arith) in
-    object_written _ _ count _ n s.size _ _ l es c.count_size-count.ensures c.first_byte.ensures c.put_packed.ensures ids offsets c.put_packed-2.ensures refl
-    refl k
+    object_written _ _ count _ n s.size _ _ l es c.count_size-count.ensures c.first_byte.ensures front ids offsets last refl refl k

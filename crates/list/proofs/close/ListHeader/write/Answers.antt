@@ -16,4 +16,5 @@ returns c =
     let p = starts_part a.width _ a.count c.put_packed.new.buf s.result.1.now (omega (arith, m, s.ensures.front_len)) c.write_starts.ensures in
     rw (← e, ← s.ensures.back)
     (ap (λ l. l ++ s.result.1.now)
-    (header_written a.width _ _ a.count a.size _ _ k c.first_byte.ensures s.ensures.front_len c.put_packed.ensures p c.put_packed-2.ensures))
+    (header_written a.width _ _ a.count a.size _ _ k c.first_byte.ensures s.ensures.front_len (c.put_packed.ensures.room (omega arith)) p
+    (c.put_packed-2.ensures.room (omega arith))))

@@ -6,4 +6,4 @@ pub returns-then-pairs_above_9 : goal.returns-then-pairs_above_9
 returns-then-pairs_above_9 c = above_first _ _ c.pairs_above_9.ensures c.if-pairs_above_9.true
 
 pub returns-else-pairs_above_9 : goal.returns-else-pairs_above_9
-returns-else-pairs_above_9 c = above_last _ _ c.pairs_above_9.ensures c.if-pairs_above_9.false
+returns-else-pairs_above_9 c = rw c.high_half.ensures (above_last _ _ c.pairs_above_9.ensures c.if-pairs_above_9.false)
